@@ -1,0 +1,25 @@
+//! What every other crate speaks of: want of memory, lists, texts, names, paths, places in a text,
+//! symbols and answers, copies of values, and where headers come from.
+#![tactic(auto)]
+
+mod answer;
+mod duplicate;
+mod headers;
+mod list;
+mod memory;
+mod memory_headers;
+mod name;
+mod path;
+mod place;
+mod text;
+
+pub use answer::{Answer, Symbol};
+pub use duplicate::Duplicate;
+pub use headers::{HeaderSource, Read};
+pub use list::List;
+pub use memory::{Mem, Memory};
+pub use memory_headers::MemoryHeaders;
+pub use name::Name;
+pub use path::Path;
+pub use place::{Position, Range};
+pub use text::Text;
