@@ -1,0 +1,4 @@
+pub mod Ended
+pub mod Effects
+pub mod Taking
+pub mod Texts

@@ -1,0 +1,60 @@
+ghost use Rattle.std.specs.Prelude.{◌≡◌, ◌∷◌, [], ◌++◌, None, option_to_list, IfOk, OnErr};
+ghost use Rattle.cl_rpc.specs.declared.call.Parsed.TheVariants.{Request};
+ghost use Rattle.cl_store.specs.Docs.{doc_at};
+ghost use Rattle.cl_core.specs.Deciding.{core_refusal, waiting_for};
+ghost use Rattle.cl_core.specs.Steps.{IsAsBefore, Takes};
+
+use crate::core_state::Core;
+use crate::event::Effect;
+use crate::note::{note, settle};
+use crate::waiting::Waiting;
+use cl_base::{Duplicate, List, Mem, Memory, Path};
+use cl_query::{Job, Query};
+use cl_rpc::{Call, Id};
+use std::alloc::Global;
+
+/// Takes a query that is accepted: it waits, and its job is started.
+pub fn start(alloc: Global, core: &mut Core, id: &Id, path: &Path) -> Mem<List<Effect>>
+    requires { core_refusal core.old id.now (Call.Symbols path.now) ≡ None }
+    ensures ok { IfOk result (λ all. Takes core.old (Request id.now (Call.Symbols path.now)) core.new all) }
+    ensures err { OnErr result (IsAsBefore core.old core.new) }
+{
+    let Some(waiting) = waiting_for(alloc, core, id, path)? else {
+        return settle(alloc, core, List::new(alloc));
+    };
+    let mut effects = List::new(alloc);
+    effects.push(Effect::StartJob(waiting.job.duplicate(alloc)?))?;
+    let length = core.journal.len();
+    let messages = core.messages;
+    note(alloc, core, effects.as_slice())?;
+    if core.pending.push(waiting).is_err() {
+        core.journal.truncate(length);
+        core.messages = messages;
+        return Err(Memory);
+    }
+    core.jobs = core.jobs.wrapping_add(1);
+    core.finished = false;
+    Ok(effects)
+}
+
+/// The request that starts to wait, and its job over the document as it is.
+fn waiting_for(alloc: Global, core: &Core, id: &Id, path: &Path) -> Mem<Option<Waiting>>
+    ensures { IfOk result (λ waiting. option_to_list waiting ≡ waiting_for core.now id.now path.now (doc_at core.now.docs path.now)) }
+{
+    let Some(doc) = core.docs.text_at(path) else {
+        return Ok(None);
+    };
+    let id = id.duplicate(alloc)?;
+    let path = path.duplicate(alloc)?;
+    let text = doc.text.duplicate(alloc)?;
+    let job = Job {
+        number: core.jobs,
+        message: core.messages,
+        mark: core.journal.len() as u64 + 1,
+        version: doc.version,
+        path,
+        text,
+        kind: Query::Symbols,
+    };
+    Ok(Some(Waiting { id, job }))
+}

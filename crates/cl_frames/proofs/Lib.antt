@@ -1,0 +1,5 @@
+pub mod FrameLemmas
+pub mod GoesOn
+pub mod Known
+pub mod Made
+pub mod Stable

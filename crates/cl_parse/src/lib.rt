@@ -1,0 +1,12 @@
+//! The items of a C text: its declarations, and what is none.
+#![tactic(auto)]
+
+mod item;
+mod keywords;
+mod laws;
+mod parse;
+
+pub use item::Item;
+pub use keywords::is_keyword;
+pub use laws::one_item_list;
+pub use parse::items;

@@ -1,0 +1,4 @@
+pub mod Positions
+pub mod Symbols
+pub mod AnswerOf
+pub mod Worked

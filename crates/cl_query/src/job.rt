@@ -1,0 +1,52 @@
+//! The work for one query.
+
+ghost use Rattle.std.specs.Prelude.{◌≡◌, ◌↔◌, IsTrue};
+
+use crate::query::Query;
+use cl_base::{Duplicate, Mem, Path, Text};
+use std::alloc::Global;
+
+/// A query with all that its answer depends on. `number` names the job, `message` is the number of the message that it
+/// works for, `mark` is the length of the journal when its snapshot was taken, `path` and `version` are the
+/// document's, and `text` is the document's text at that time.
+#[derive(Drop)]
+pub struct Job {
+    pub number: u64,
+    pub message: u64,
+    pub mark: u64,
+    pub path: Path,
+    pub version: i64,
+    pub text: Text,
+    pub kind: Query,
+}
+
+impl Job {
+    /// Whether this is the same job as the other.
+    pub fn same(&self, other: &Job) -> bool
+        ensures { IsTrue result ↔ (self.now ≡ other.now) }
+    {
+        self.number == other.number
+            && self.message == other.message
+            && self.mark == other.mark
+            && self.version == other.version
+            && self.kind == other.kind
+            && self.path == other.path
+            && self.text == other.text
+    }
+}
+
+impl Duplicate for Job {
+    fn duplicate(&self, alloc: Global) -> Mem<Job> {
+        let path = self.path.duplicate(alloc)?;
+        let text = self.text.duplicate(alloc)?;
+        Ok(Job {
+            number: self.number,
+            message: self.message,
+            mark: self.mark,
+            path,
+            version: self.version,
+            text,
+            kind: self.kind,
+        })
+    }
+}

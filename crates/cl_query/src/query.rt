@@ -1,0 +1,17 @@
+//! What may be asked about a text.
+
+use cl_base::{Duplicate, Mem};
+use std::alloc::Global;
+
+/// A question about a text.
+#[derive(Clone, Copy, PartialEq, Eq)]
+pub enum Query {
+    /// The symbols of the text (LSP 3.17, textDocument/documentSymbol).
+    Symbols,
+}
+
+impl Duplicate for Query {
+    fn duplicate(&self, _alloc: Global) -> Mem<Query> {
+        Ok(*self)
+    }
+}

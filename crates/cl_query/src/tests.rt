@@ -1,0 +1,71 @@
+//! Worked examples.
+
+use crate::{Job, JobAnswer, Query, run_job};
+use cl_base::{Answer, Duplicate, Mem, Memory, Path, Symbol, Text};
+use std::alloc::Global;
+
+#[test]
+fn lists_the_symbols(rt: HostRuntime) -> Result<(), Memory> {
+    for (text, wanted) in [
+        ("", ""),
+        (
+            "int a;int b ;\n\tint  c\n;",
+            "13 a 0:0-0:6 0:4-0:5 0;13 b 0:6-0:13 0:10-0:11 0;13 c 1:1-2:1 1:6-1:7 0;",
+        ),
+        (
+            "int int; int 1x; int x y; int ok;",
+            "13 ok 0:26-0:33 0:30-0:32 0;",
+        ),
+        ("int x;\n", "13 x 0:0-0:6 0:4-0:5 0;"),
+        ("int x; int y", "13 x 0:0-0:6 0:4-0:5 0;"),
+    ] {
+        let found = listed(rt.alloc(), text)?;
+        assert_eq!(rt; found.as_str(), wanted, "at {text}");
+    }
+    Ok(())
+}
+
+/// The symbols of a text, as a copy of its job finds them.
+fn listed(alloc: Global, text: &str) -> Mem<String> {
+    let job = Job {
+        number: 1,
+        message: 2,
+        mark: 3,
+        path: Path::new(alloc, "/a.c")?,
+        version: 4,
+        text: Text::new(alloc, text.as_bytes())?,
+        kind: Query::Symbols,
+    };
+    match run_job(alloc, job.duplicate(alloc)?) {
+        JobAnswer::Done(done) => match &done.answer {
+            Answer::Symbols(symbols) => lines(alloc, symbols.as_slice()),
+        },
+        JobAnswer::Memory(_) => Err(Memory),
+    }
+}
+
+/// Each symbol with its kind, its name, its range, its name's range and how many children it has.
+fn lines(alloc: Global, symbols: &[Symbol]) -> Mem<String> {
+    let mut lines = String::new(alloc);
+    for symbol in symbols {
+        let name = match std::str::from_utf8(symbol.name.bytes()) {
+            Ok(name) => name,
+            Err(_) => "?",
+        };
+        let kind = symbol.kind;
+        let (start, end) = (symbol.range.start, symbol.range.end);
+        let range = format!(in alloc;
+            "{}:{}-{}:{}",
+            start.line, start.character, end.line, end.character
+        )?;
+        let (start, end) = (symbol.selection.start, symbol.selection.end);
+        let selection = format!(in alloc;
+            "{}:{}-{}:{}",
+            start.line, start.character, end.line, end.character
+        )?;
+        let children = symbol.children.len();
+        let line = format!(in alloc; "{kind} {name} {range} {selection} {children};")?;
+        lines.push_str(line.as_str())?;
+    }
+    Ok(lines)
+}

@@ -1,0 +1,3 @@
+pub mod LossyLemmas
+pub mod MessageLemmas
+pub mod ReplyLemmas

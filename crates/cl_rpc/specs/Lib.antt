@@ -1,0 +1,3 @@
+pub mod Lossy
+pub mod Messages
+pub mod Replies

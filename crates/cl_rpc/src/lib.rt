@@ -1,0 +1,26 @@
+//! The session's messages: JSON bodies in, replies out (JSON-RPC 2.0; LSP 3.17).
+#![tactic(auto)]
+
+mod call;
+mod id;
+mod json;
+mod lossy;
+mod message;
+mod message_call;
+mod message_changes;
+mod message_method;
+mod message_params;
+#[cfg(test)]
+mod message_tests;
+mod out;
+mod reply;
+mod reply_symbols;
+#[cfg(test)]
+mod reply_tests;
+mod reply_value;
+
+pub use call::{Call, Parsed};
+pub use id::Id;
+pub use message::message_of;
+pub use out::{How, Out, Reply};
+pub use reply::reply_text;

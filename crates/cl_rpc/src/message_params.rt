@@ -1,0 +1,119 @@
+ghost use Rattle.std.specs.Prelude.{◌≡◌, IfOk, option_map};
+ghost use Rattle.serde_json.specs.View.{view};
+ghost use Rattle.cl_rpc.specs.Messages.{as_id, id_in, document_in, has_params_object, uri_in, version_in, is_file_uri, opened_text_in, cancelled_in, is_plain_text, is_plain};
+
+use crate::id::Id;
+use crate::json::{text_at, whole_at};
+use cl_base::{Mem, Text};
+use serde_json::Value;
+use std::alloc::Global;
+
+/// The id that a value is, where it is one.
+pub fn id_of(alloc: Global, value: &Value) -> Mem<Option<Id>>
+    ensures { IfOk result (λ id. id ≡ as_id (view value.now)) }
+{
+    if let Some(text) = value.as_str() {
+        let text = Text::new(alloc, text.as_bytes())?;
+        return Ok(Some(Id::Text(text)));
+    }
+    match value.as_i64() {
+        Some(number) => Ok(Some(Id::Number(number))),
+        None => Ok(None),
+    }
+}
+
+/// The id that stands in an object, where one can be read.
+pub fn id_at(alloc: Global, value: &Value) -> Mem<Option<Id>>
+    ensures { IfOk result (λ id. id ≡ id_in (view value.now)) }
+{
+    match value.get("id") {
+        Some(id) => {
+            let id = id_of(alloc, id)?;
+            Ok(id)
+        }
+        None => Ok(None),
+    }
+}
+
+/// Whether the params are an object.
+pub fn has_params_object(value: &Value) -> bool
+    ensures { result ≡ has_params_object (view value.now) }
+{
+    match value.get("params") {
+        Some(params) => params.is_object(),
+        None => false,
+    }
+}
+
+/// The document that the params name.
+fn document_at(value: &Value) -> Option<&Value>
+    ensures { option_map (λ v. view v.now) result ≡ document_in (view value.now) }
+{
+    value
+        .get("params")
+        .and_then(|params| params.get("textDocument"))
+}
+
+/// The document's URI, where it is that of a file.
+pub fn uri_at(value: &Value) -> Option<&str>
+    ensures { option_map (λ s. s.now) result ≡ uri_in (view value.now) }
+{
+    let document = document_at(value)?;
+    let uri = text_at(document, "uri")?;
+    if is_file_uri(uri) { Some(uri) } else { None }
+}
+
+/// Whether a URI is that of a file.
+fn is_file_uri(uri: &str) -> bool
+    ensures { result ≡ is_file_uri uri.now }
+{
+    uri.as_bytes().starts_with(b"file:///".as_slice())
+}
+
+/// The document's version.
+pub fn version_at(value: &Value) -> Option<i64>
+    ensures { result ≡ version_in (view value.now) }
+{
+    let document = document_at(value)?;
+    whole_at(document, "version")
+}
+
+/// The document's text, where it is one that can be taken.
+pub fn opened_text_at(value: &Value) -> Option<&str>
+    ensures { option_map (λ s. s.now) result ≡ opened_text_in (view value.now) }
+{
+    let document = document_at(value)?;
+    let text = text_at(document, "text")?;
+    if is_plain_text(text.as_bytes()) {
+        Some(text)
+    } else {
+        None
+    }
+}
+
+/// Whether each byte is one that a document may hold.
+pub fn is_plain_text(text: &[u8]) -> bool
+    ensures { result ≡ is_plain_text text.now }
+{
+    text.iter().all(|byte| is_plain(*byte))
+}
+
+/// Whether a document may hold this byte.
+fn is_plain(byte: u8) -> bool
+    ensures { result ≡ is_plain byte }
+{
+    byte == 9 || byte == 10 || (32 <= byte && byte <= 126)
+}
+
+/// The id that a cancel names.
+pub fn cancelled_at(alloc: Global, value: &Value) -> Mem<Option<Id>>
+    ensures { IfOk result (λ id. id ≡ cancelled_in (view value.now)) }
+{
+    match value.get("params") {
+        Some(params) => {
+            let id = id_at(alloc, params)?;
+            Ok(id)
+        }
+        None => Ok(None),
+    }
+}
