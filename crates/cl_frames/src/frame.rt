@@ -85,6 +85,7 @@ impl Frames {
         ensures last { self.old.last ≡ None → self.new.last ≡ last_of result }
         ensures later { self.old.taken ≤ self.new.taken }
         ensures room { self.new.taken ≤ 2 ^ 40 }
+        ensures goes_on { self.old.last ≡ None → last_of result ≡ None → (self.old.taken < self.new.taken) × (self.new.taken < 2 ^ 40) }
         ensures cause { HasCause (S.faults source.old) (S.faults source.new) ((self.old.last ≡ None) × (result ≡ Frame.Failed)) }
     {
         if let Some(stop) = self.last {
@@ -131,7 +132,7 @@ fn next_frame<S: Source>(alloc: Global, source: &mut S, taken: &mut u64) -> Fram
     ensures reads { (bytes : List ℕ) → S.left source.old ≡ Some bytes → ReadsFrame taken.old taken.new bytes (S.left source.new) result }
     ensures later { taken.old ≤ taken.new }
     ensures room { taken.new ≤ 2 ^ 40 }
-    ensures goes_on { last_of result ≡ None → taken.new < 2 ^ 40 }
+    ensures goes_on { last_of result ≡ None → (taken.old < taken.new) × (taken.new < 2 ^ 40) }
     ensures cause { HasCause (S.faults source.old) (S.faults source.new) (result ≡ Frame.Failed) }
 {
     let offset = *taken;

@@ -1,10 +1,10 @@
 -- How bytes are shown, a front at a time.
-use Rattle.std.proofs.Common.{◌≡◌, ◌≢◌, ◌∙◌, ◌<◌, ◌≤◌, ◌+◌, ◌-◌, ◌==◌, ℕ, zero, suc, List, [], ◌∷◌, ◌++◌, length, take, drop, refl, sym, ap, subst, append_assoc, append-nil, arith, Bool, true, false, cond, nat_lt, ◌&&◌, if◌then◌else◌}
-use Rattle.std.proofs.lemmas.List.{length-drop, length-append, length-take-le, take-append-le, take-append-drop, drop-drop}
+use Rattle.std.proofs.Common.{◌≡◌, ◌∙◌, ◌<◌, ◌≤◌, ◌+◌, ◌-◌, ◌==◌, ℕ, zero, suc, List, [], ◌∷◌, ◌++◌, length, take, drop, refl, sym, ap, subst, append_assoc, append-nil, arith, Bool, true, false, cond, nat_lt, ◌&&◌}
+use Rattle.std.proofs.lemmas.List.{length-drop, length-append, length-take-le, take-append-le, take-append-drop}
 use Rattle.std.proofs.Math.Seq.{take-add, take-length}
 use Rattle.std.proofs.lemmas.Bool.{ne_eqb}
 use Rattle.std.proofs.lemmas.Str.{IsUtf8-nil, IsUtf8-append, IsUtf8-encode, IsUtf8-past_char, IsUtf8-from_is_utf8, is_utf8-from_IsUtf8, chars_past_char, encodes-chars, length-encode}
-use Rattle.std.specs.Char.{IsScalar, len_utf8}
+use Rattle.std.specs.Char.{IsScalar}
 use Rattle.std.specs.Str.{IsUtf8, is_utf8, IsValidUpTo, chars}
 use Rattle.std.specs.Str.Lossy.{replacement_bytes}
 use lib.Utf8.{scalar, scalars, encode, encodes}

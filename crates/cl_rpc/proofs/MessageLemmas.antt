@@ -1,5 +1,5 @@
 -- Lists of changes, and bodies.
-use Rattle.std.proofs.Common.{◌≡◌, ◌∙◌, ◌-◌, ◌&&◌, List, [], ◌∷◌, length, map, refl, ap, Option, Some, None, codes, option_and_then, is_some, true, false, ℕ, if◌then◌else◌}
+use Rattle.std.proofs.Common.{◌≡◌, ◌-◌, ◌&&◌, List, [], ◌∷◌, length, refl, ap, None, codes, option_and_then, is_some, true, false, ℕ, if◌then◌else◌}
 use native.Mathlib.Numerals.{unary_clauses}
 use Rattle.std.specs.Prelude.{slice_get}
 use Rattle.std.specs.List.{list_all}
@@ -8,7 +8,7 @@ use Rattle.std.proofs.lemmas.Str.{is_utf8-from_IsUtf8, IsUtf8-from_is_utf8}
 use Rattle.serde_json.specs.declared.value.Value.{Value}
 use Rattle.serde_json.specs.View.{view, items_view}
 use Rattle.serde_json.specs.Read.{read}
-use Rattle.cl_rpc.specs.Messages.{text_in, each_has_text, last_text, last_of, value_in}
+use Rattle.cl_rpc.specs.Messages.{text_in, each_has_text, last_text, value_in}
 
 pub each_has_text_is : (vs : List Value) → list_all (λ (v : Value). is_some (text_in (codes "text") (view v))) vs ≡ each_has_text (items_view vs)
 each_has_text_is [] = refl

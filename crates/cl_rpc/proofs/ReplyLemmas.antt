@@ -1,5 +1,5 @@
 -- The equation of a symbol's data, and that no reply holds a float.
-use Rattle.std.proofs.Common.{◌≡◌, ℕ, ℤ, pos, negsuc, map, List, [], ◌∷◌, false, refl, ap, subst, ◌∙◌, Option, Some, None, ◌||◌}
+use Rattle.std.proofs.Common.{◌≡◌, ℕ, ℤ, pos, negsuc, map, List, [], ◌∷◌, false, refl, ap, subst, ◌∙◌, Option, Some, None}
 use Rattle.serde_json.specs.Data.{Data}
 use Rattle.serde_json.specs.View.{items_of}
 use Rattle.serde_json.specs.Find.{of_integer, is_float}

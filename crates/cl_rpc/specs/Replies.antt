@@ -1,5 +1,5 @@
 -- What is written for a reply (JSON-RPC 2.0, section 5; LSP 3.17, base protocol and DocumentSymbol).
-use Rattle.std.specs.Prelude.{◌≡◌, ℕ, ℤ, negsuc, ◌++◌, List, [], ◌∷◌, length, map, Bool, true, false, if◌then◌else◌, Option, Some, None, codes, decimal}
+use Rattle.std.specs.Prelude.{ℕ, ℤ, negsuc, ◌++◌, List, [], ◌∷◌, length, map, true, if◌then◌else◌, Option, Some, None, codes, decimal}
 use Rattle.std.specs.Ordering.{int_eq}
 use Rattle.serde_json.specs.Data.{Data, null, boolean, number, unsigned, string, array, object, Members, no_members, member}
 use Rattle.serde_json.specs.View.{items_of}

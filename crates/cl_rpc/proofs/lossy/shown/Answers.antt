@@ -1,4 +1,4 @@
-use Rattle.std.proofs.Common.{◌≡◌, ◌++◌, ◌∙◌, ap, arith, string_bytes, take, drop, List, ℕ}
+use Rattle.std.proofs.Common.{◌≡◌, ◌++◌, ◌∙◌, ap, string_bytes, take, drop, List, ℕ}
 use Rattle.std.specs.Str.{valid_up_to}
 use Rattle.std.specs.Str.Lossy.{replacement_bytes}
 use Rattle.cl_rpc.proofs.LossyLemmas.{shown_ends, shown_goes_on}
