@@ -3,6 +3,8 @@
 
 mod command;
 mod outcome;
+#[cfg(test)]
+mod scripts;
 mod serve;
 mod session;
 #[cfg(test)]

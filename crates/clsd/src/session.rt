@@ -29,18 +29,18 @@ pub fn run<S: Source, K: Sink>(
         match frame {
             Frame::Body(body) => match take_body(alloc, core, sink, &body) {
                 Ok(Turn::GoesOn) => {}
-                Ok(Turn::Ends(status)) => return ended(status),
-                Ok(Turn::SinkFailed) => return ended(SINK_FAILED),
-                Err(Memory) => return ended(NO_MEMORY),
+                Ok(Turn::Ends(status)) => return ended_with(status),
+                Ok(Turn::SinkFailed) => return ended_with(SINK_FAILED),
+                Err(Memory) => return ended_with(NO_MEMORY),
             },
-            Frame::End => return ended(end(alloc, core, Ending::Edge)),
+            Frame::End => return ended_with(end(alloc, core, Ending::Edge)),
             Frame::Bad { offset } => return bad(end(alloc, core, Ending::Bad), offset),
-            Frame::Failed => return ended(end(alloc, core, Ending::Failed)),
-            Frame::Long => return ended(end(alloc, core, Ending::Long)),
-            Frame::Memory => return ended(end(alloc, core, Ending::Memory)),
+            Frame::Failed => return ended_with(end(alloc, core, Ending::Failed)),
+            Frame::Long => return ended_with(end(alloc, core, Ending::Long)),
+            Frame::Memory => return ended_with(end(alloc, core, Ending::Memory)),
         }
     }
-    ended(NO_MEMORY)
+    ended_with(NO_MEMORY)
 }
 
 /// Takes the body of a frame.
@@ -61,14 +61,14 @@ fn end(alloc: Global, core: &mut Core, ending: Ending) -> u8 {
 }
 
 /// The end with this status.
-fn ended(status: u8) -> Ended {
+fn ended_with(status: u8) -> Ended {
     Ended { status, at: 0 }
 }
 
 /// The end at a bad frame of this offset, or for want of memory.
 fn bad(status: u8, offset: u64) -> Ended {
     if status == NO_MEMORY {
-        return ended(status);
+        return ended_with(status);
     }
     Ended { status, at: offset }
 }

@@ -1,0 +1,185 @@
+//! Whole sessions against what they must write. In a script a line `> BODY` is a message, and a line `< BODY` a reply.
+
+use crate::outcome::Outcome;
+use crate::scripts;
+use crate::serve::serve_serial;
+use cl_base::{List, Memory, MemoryHeaders};
+use cl_core::Entry;
+use cl_frames::{MemorySink, MemorySource};
+use cl_rpc::How;
+use std::alloc::Global;
+use std::process::Abort;
+use std::test::Fail;
+
+/// The frames of the lines that begin with this mark.
+fn frames_of(alloc: Global, script: &str, mark: &str) -> Result<String, Fail> {
+    let mut frames = String::new(alloc);
+    for line in script.lines() {
+        if let Some(body) = line.strip_prefix(mark) {
+            let frame = format!(in alloc; "Content-Length: {}\r\n\r\n{body}", body.len())?;
+            frames.push_str(frame.as_str())?;
+        }
+    }
+    Ok(frames)
+}
+
+/// The words of a session without workers.
+fn words(alloc: Global) -> Result<Vec<String>, Fail> {
+    let mut words = Vec::new(alloc);
+    words.push(String::from_str(alloc, "serve")?)?;
+    words.push(String::from_str(alloc, "--workers=0")?)?;
+    Ok(words)
+}
+
+/// The outcome of a session over these bytes, and what it wrote.
+fn served(
+    alloc: Global,
+    source: MemorySource,
+    sink: MemorySink,
+) -> Result<(Outcome, MemorySink), Fail> {
+    let words = words(alloc)?;
+    let mut headers = MemoryHeaders::new(alloc, List::new(alloc), &[]).map_err(of_memory)?;
+    let mut source = source;
+    let mut sink = sink;
+    let outcome = serve_serial(
+        alloc,
+        words.as_slice(),
+        &mut source,
+        &mut sink,
+        &mut headers,
+    );
+    Ok((outcome, sink))
+}
+
+fn of_memory(_memory: Memory) -> &'static str {
+    "memory"
+}
+
+/// Plays a script through a source that gives one byte at a time and a sink that takes three.
+fn plays(rt: &impl Abort, alloc: Global, script: &str, status: u8) -> Result<Outcome, Fail> {
+    let input = frames_of(alloc, script, "> ")?;
+    let wanted = frames_of(alloc, script, "< ")?;
+    let source = MemorySource::new(alloc, input.as_bytes(), 1, &[]).map_err(of_memory)?;
+    let sink = MemorySink::new(alloc, 3, &[]).map_err(of_memory)?;
+    let (outcome, sink) = served(alloc, source, sink)?;
+    assert_eq!(rt; outcome.status, status, "the status of {script}");
+    assert!(rt; sink.held() == wanted.as_bytes(), "the replies of {script}");
+    Ok(outcome)
+}
+
+/// The journal as a line.
+fn told(alloc: Global, journal: &List<Entry>) -> Result<String, Fail> {
+    let mut line = String::new(alloc);
+    for entry in journal.as_slice() {
+        let told = match entry {
+            Entry::In(message) => format!(in alloc; "in {message}; ")?,
+            Entry::Load(read) => format!(in alloc; "load {read}; ")?,
+            Entry::Reply { message, mark, how } => {
+                let how = how_told(*how);
+                format!(in alloc; "reply {message} at {mark} {how}; ")?
+            }
+            Entry::Notify { message, mark } => format!(in alloc; "notify {message} at {mark}; ")?,
+        };
+        line.push_str(told.as_str())?;
+    }
+    Ok(line)
+}
+
+fn how_told(how: How) -> &'static str {
+    match how {
+        How::Answered => "answered",
+        How::Cancelled => "cancelled",
+        How::Modified => "modified",
+        How::Refused => "refused",
+        How::Memory => "memory",
+    }
+}
+
+#[test]
+fn first_session(rt: HostRuntime) -> Result<(), Fail> {
+    let alloc = rt.alloc();
+    let outcome = plays(&rt, alloc, scripts::first_session(), 0)?;
+    let journal = told(alloc, &outcome.journal)?;
+    assert!(rt;
+        journal.as_str()
+            == "in 0; reply 0 at 1 answered; in 1; in 2; reply 2 at 4 answered; in 3; reply 3 at 6 answered; in 4; "
+    );
+    assert_eq!(rt; outcome.at, 0);
+    assert_eq!(rt; outcome.links, 0);
+    Ok(())
+}
+
+#[test]
+fn refusals_and_edits(rt: HostRuntime) -> Result<(), Fail> {
+    let alloc = rt.alloc();
+    plays(&rt, alloc, scripts::refusals(), 0)?;
+    plays(&rt, alloc, scripts::edits(), 1)?;
+    plays(&rt, alloc, scripts::no_exit(), 2)?;
+    Ok(())
+}
+
+/// What is left of a session that is cut off within its last frame.
+#[test]
+fn ends_within_a_frame(rt: HostRuntime) -> Result<(), Fail> {
+    let alloc = rt.alloc();
+    let input = frames_of(alloc, scripts::no_exit(), "> ")?;
+    let wanted = frames_of(alloc, scripts::no_exit(), "< ")?;
+    let whole = input.len() as u64;
+    let mut bytes = Vec::from_slice(alloc, input.as_bytes())?;
+    bytes.extend_from_slice(b"Content-Length: 5\r\n\r\n{}")?;
+    let source = MemorySource::new(alloc, bytes.as_slice(), 7, &[]).map_err(of_memory)?;
+    let sink = MemorySink::new(alloc, 9, &[]).map_err(of_memory)?;
+    let (outcome, sink) = served(alloc, source, sink)?;
+    assert_eq!(rt; outcome.status, 3);
+    assert_eq!(rt; outcome.at, whole);
+    assert!(rt; sink.held() == wanted.as_bytes());
+    Ok(())
+}
+
+/// The source fails at each read in turn, and the sink at each write.
+#[test]
+fn each_fault_in_turn(rt: HostRuntime) -> Result<(), Fail> {
+    let alloc = rt.alloc();
+    let input = frames_of(alloc, scripts::first_session(), "> ")?;
+    let wanted = frames_of(alloc, scripts::first_session(), "< ")?;
+    for call in 0..200u64 {
+        let fails = [call];
+        let source = MemorySource::new(alloc, input.as_bytes(), 64, &fails).map_err(of_memory)?;
+        let sink = MemorySink::new(alloc, 1000, &[]).map_err(of_memory)?;
+        let (outcome, sink) = served(alloc, source, sink)?;
+        assert!(rt; outcome.status == 4 || call > 100, "a read that fails");
+        assert!(rt; wanted.as_bytes().starts_with(sink.held()));
+    }
+    for call in 0..9u64 {
+        let fails = [call];
+        let source = MemorySource::new(alloc, input.as_bytes(), 64, &[]).map_err(of_memory)?;
+        let sink = MemorySink::new(alloc, 50, &fails).map_err(of_memory)?;
+        let (outcome, sink) = served(alloc, source, sink)?;
+        assert_eq!(rt; outcome.status, 5, "a write that fails");
+        assert!(rt; wanted.as_bytes().starts_with(sink.held()));
+    }
+    Ok(())
+}
+
+/// Words that are no command's: nothing is read or written.
+#[test]
+fn wrong_words(rt: HostRuntime) -> Result<(), Fail> {
+    let alloc = rt.alloc();
+    let mut words = Vec::new(alloc);
+    words.push(String::from_str(alloc, "serve")?)?;
+    words.push(String::from_str(alloc, "-x")?)?;
+    let mut headers = MemoryHeaders::new(alloc, List::new(alloc), &[]).map_err(of_memory)?;
+    let mut source = MemorySource::new(alloc, b"Content", 1, &[]).map_err(of_memory)?;
+    let mut sink = MemorySink::new(alloc, 1, &[]).map_err(of_memory)?;
+    let outcome = serve_serial(
+        alloc,
+        words.as_slice(),
+        &mut source,
+        &mut sink,
+        &mut headers,
+    );
+    assert_eq!(rt; outcome.status, 6);
+    assert_eq!(rt; source.rest().len(), 7);
+    assert_eq!(rt; sink.held().len(), 0);
+    Ok(())
+}

@@ -1,0 +1,74 @@
+//! Sessions for tests: each line that begins with `> ` is a message, and each that begins with `< ` the reply that it
+//! must get.
+
+/// The first session: one document, its symbol, and the end.
+pub fn first_session() -> &'static str {
+    "> {\"jsonrpc\":\"2.0\",\"id\":1,\"method\":\"initialize\",\"params\":{\"processId\":null,\"rootUri\":null,\"capabilities\":{}}}
+< {\"id\":1,\"jsonrpc\":\"2.0\",\"result\":{\"capabilities\":{\"documentSymbolProvider\":true,\"textDocumentSync\":1},\"serverInfo\":{\"name\":\"clsd\"}}}
+> {\"jsonrpc\":\"2.0\",\"method\":\"textDocument/didOpen\",\"params\":{\"textDocument\":{\"uri\":\"file:///a.c\",\"languageId\":\"c\",\"version\":1,\"text\":\"int x;\\n\"}}}
+> {\"jsonrpc\":\"2.0\",\"id\":2,\"method\":\"textDocument/documentSymbol\",\"params\":{\"textDocument\":{\"uri\":\"file:///a.c\"}}}
+< {\"id\":2,\"jsonrpc\":\"2.0\",\"result\":[{\"kind\":13,\"name\":\"x\",\"range\":{\"end\":{\"character\":6,\"line\":0},\"start\":{\"character\":0,\"line\":0}},\"selectionRange\":{\"end\":{\"character\":5,\"line\":0},\"start\":{\"character\":4,\"line\":0}}}]}
+> {\"jsonrpc\":\"2.0\",\"id\":3,\"method\":\"shutdown\"}
+< {\"id\":3,\"jsonrpc\":\"2.0\",\"result\":null}
+> {\"jsonrpc\":\"2.0\",\"method\":\"exit\"}
+"
+}
+
+/// Each refusal: before `initialize`, of bodies that are no request, of a second `initialize`, of a document that isn't
+/// open, of a method and of params, and after `shutdown`. An empty document has no symbols.
+pub fn refusals() -> &'static str {
+    "> {\"jsonrpc\":\"2.0\",\"id\":1,\"method\":\"shutdown\"}
+< {\"error\":{\"code\":-32002,\"message\":\"not initialized\"},\"id\":1,\"jsonrpc\":\"2.0\"}
+> {\"jsonrpc\":\"2.0\",\"method\":\"textDocument/didOpen\",\"params\":{\"textDocument\":{\"uri\":\"file:///a.c\",\"version\":1,\"text\":\"\"}}}
+> {\"jsonrpc\":\"2.0\",\"id\":1,\"method\":\"initialize\",\"params\":{}}
+< {\"id\":1,\"jsonrpc\":\"2.0\",\"result\":{\"capabilities\":{\"documentSymbolProvider\":true,\"textDocumentSync\":1},\"serverInfo\":{\"name\":\"clsd\"}}}
+> {\"jsonrpc\":\"2.0\",\"id\":\"again\",\"method\":\"initialize\",\"params\":{}}
+< {\"error\":{\"code\":-32600,\"message\":\"invalid request\"},\"id\":\"again\",\"jsonrpc\":\"2.0\"}
+> {\"jsonrpc\":\"2.0\",\"id\":2,\"method\":\"textDocument/documentSymbol\",\"params\":{\"textDocument\":{\"uri\":\"file:///a.c\"}}}
+< {\"error\":{\"code\":-32602,\"message\":\"invalid params\"},\"id\":2,\"jsonrpc\":\"2.0\"}
+> 
+< {\"error\":{\"code\":-32700,\"message\":\"parse error\"},\"id\":null,\"jsonrpc\":\"2.0\"}
+> []
+< {\"error\":{\"code\":-32600,\"message\":\"invalid request\"},\"id\":null,\"jsonrpc\":\"2.0\"}
+> {\"jsonrpc\":\"2.0\",\"id\":3,\"method\":\"textDocument/didOpen\"}
+< {\"error\":{\"code\":-32601,\"message\":\"method not found\"},\"id\":3,\"jsonrpc\":\"2.0\"}
+> {\"jsonrpc\":\"2.0\",\"id\":4,\"method\":\"textDocument/documentSymbol\",\"params\":{}}
+< {\"error\":{\"code\":-32602,\"message\":\"invalid params\"},\"id\":4,\"jsonrpc\":\"2.0\"}
+> {\"jsonrpc\":\"2.0\",\"method\":\"textDocument/didOpen\",\"params\":{\"textDocument\":{\"uri\":\"file:///a.c\",\"version\":1,\"text\":\"\"}}}
+> {\"jsonrpc\":\"2.0\",\"id\":5,\"method\":\"textDocument/documentSymbol\",\"params\":{\"textDocument\":{\"uri\":\"file:///a.c\"}}}
+< {\"id\":5,\"jsonrpc\":\"2.0\",\"result\":[]}
+> {\"jsonrpc\":\"2.0\",\"id\":6,\"method\":\"shutdown\"}
+< {\"id\":6,\"jsonrpc\":\"2.0\",\"result\":null}
+> {\"jsonrpc\":\"2.0\",\"id\":7,\"method\":\"textDocument/documentSymbol\",\"params\":{\"textDocument\":{\"uri\":\"file:///a.c\"}}}
+< {\"error\":{\"code\":-32600,\"message\":\"invalid request\"},\"id\":7,\"jsonrpc\":\"2.0\"}
+> {\"jsonrpc\":\"2.0\",\"method\":\"exit\"}
+"
+}
+
+/// A document that changes and closes, a cancel of what isn't pending, a notification that isn't known, and an `exit`
+/// without a `shutdown`.
+pub fn edits() -> &'static str {
+    "> {\"jsonrpc\":\"2.0\",\"id\":1,\"method\":\"initialize\",\"params\":{}}
+< {\"id\":1,\"jsonrpc\":\"2.0\",\"result\":{\"capabilities\":{\"documentSymbolProvider\":true,\"textDocumentSync\":1},\"serverInfo\":{\"name\":\"clsd\"}}}
+> {\"jsonrpc\":\"2.0\",\"method\":\"textDocument/didOpen\",\"params\":{\"textDocument\":{\"uri\":\"file:///a.c\",\"version\":1,\"text\":\"\"}}}
+> {\"jsonrpc\":\"2.0\",\"method\":\"textDocument/didChange\",\"params\":{\"textDocument\":{\"uri\":\"file:///a.c\",\"version\":2},\"contentChanges\":[{\"text\":\"int a;\"},{\"text\":\"int b;\"}]}}
+> {\"jsonrpc\":\"2.0\",\"method\":\"textDocument/didChange\",\"params\":{\"textDocument\":{\"uri\":\"file:///other.c\",\"version\":2},\"contentChanges\":[{\"text\":\"int c;\"}]}}
+> {\"jsonrpc\":\"2.0\",\"method\":\"$/cancelRequest\",\"params\":{\"id\":1}}
+> {\"jsonrpc\":\"2.0\",\"method\":\"window/workDoneProgress/cancel\",\"params\":{\"token\":1}}
+> {\"jsonrpc\":\"2.0\",\"id\":2,\"method\":\"textDocument/documentSymbol\",\"params\":{\"textDocument\":{\"uri\":\"file:///a.c\"}}}
+< {\"id\":2,\"jsonrpc\":\"2.0\",\"result\":[{\"kind\":13,\"name\":\"b\",\"range\":{\"end\":{\"character\":6,\"line\":0},\"start\":{\"character\":0,\"line\":0}},\"selectionRange\":{\"end\":{\"character\":5,\"line\":0},\"start\":{\"character\":4,\"line\":0}}}]}
+> {\"jsonrpc\":\"2.0\",\"id\":3,\"method\":\"textDocument/documentSymbol\",\"params\":{\"textDocument\":{\"uri\":\"file:///other.c\"}}}
+< {\"error\":{\"code\":-32602,\"message\":\"invalid params\"},\"id\":3,\"jsonrpc\":\"2.0\"}
+> {\"jsonrpc\":\"2.0\",\"method\":\"textDocument/didClose\",\"params\":{\"textDocument\":{\"uri\":\"file:///a.c\"}}}
+> {\"jsonrpc\":\"2.0\",\"id\":4,\"method\":\"textDocument/documentSymbol\",\"params\":{\"textDocument\":{\"uri\":\"file:///a.c\"}}}
+< {\"error\":{\"code\":-32602,\"message\":\"invalid params\"},\"id\":4,\"jsonrpc\":\"2.0\"}
+> {\"jsonrpc\":\"2.0\",\"method\":\"exit\"}
+"
+}
+
+/// A session whose input ends at a frame's edge.
+pub fn no_exit() -> &'static str {
+    "> {\"jsonrpc\":\"2.0\",\"id\":1,\"method\":\"shutdown\"}
+< {\"error\":{\"code\":-32002,\"message\":\"not initialized\"},\"id\":1,\"jsonrpc\":\"2.0\"}
+"
+}
