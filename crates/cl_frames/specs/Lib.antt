@@ -1,3 +1,4 @@
 pub mod Frames
 pub mod Outside
 pub mod Reading
+pub mod Sessions

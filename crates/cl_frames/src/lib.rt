@@ -7,6 +7,7 @@ mod memory_sink;
 mod memory_source;
 mod next_byte;
 mod outside;
+mod sessions;
 mod std_sink;
 mod std_source;
 #[cfg(test)]
@@ -18,6 +19,7 @@ pub use header::LONGEST_BODY;
 pub use memory_sink::MemorySink;
 pub use memory_source::MemorySource;
 pub use outside::{Got, Sink, Source, Took};
+pub use sessions::session_splits_once;
 pub use std_sink::StdSink;
 pub use std_source::StdSource;
 pub use write::{Written, write_frame};

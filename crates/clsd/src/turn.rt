@@ -1,3 +1,11 @@
+ghost use Rattle.std.specs.Prelude.{◌≡◌, ◌++◌, ℕ, List, Option, Some, Ok, IfOk, IsTrue, false, slice_get};
+ghost use Rattle.std.specs.Io.KnownBytes.{append_known};
+ghost use Rattle.cl_base.specs.Faults.{HasCause};
+ghost use Rattle.cl_rpc.specs.declared.call.Parsed.{Parsed};
+ghost use Rattle.cl_core.specs.Standing.{finish_of, frames_of, jobs_of};
+ghost use Rattle.clsd.specs.First.{first_of};
+ghost use Rattle.clsd.specs.Serving.{EndsWork, IsEndOf, Keeps, Turns, Works};
+
 use cl_base::{Duplicate, Mem};
 use cl_core::{Core, Effect, Event};
 use cl_frames::{Sink, Written, write_frame};
@@ -5,7 +13,7 @@ use cl_query::{Job, JobAnswer, run_job};
 use cl_rpc::{Parsed, reply_text};
 use std::alloc::Global;
 
-/// How a session goes on after an event.
+/// How a session goes on after a message.
 #[derive(Clone, Copy, PartialEq, Eq)]
 pub enum Turn {
     /// It takes the next one.
@@ -22,36 +30,54 @@ pub fn take_message<K: Sink>(
     core: &mut Core,
     sink: &mut K,
     parsed: Parsed,
-) -> Mem<Turn> {
+) -> Mem<Turn>
+    ensures turn { (messages : List Parsed) (held : List ℕ) → slice_get messages core.old.messages ≡ Some parsed
+        → Keeps messages core.old held → K.held sink.old ≡ Some held → Turns messages core.old parsed core.new (K.held sink.new) result }
+    ensures cause { HasCause (K.faults sink.old) (K.faults sink.new) (result ≡ Ok Turn.SinkFailed) }
+{
     let effects = core.step(alloc, Event::Message(parsed))?;
     if !write_replies(alloc, sink, effects.as_slice())? {
         return Ok(Turn::SinkFailed);
     }
-    if let Some(job) = job_of(alloc, effects.as_slice())? {
-        return do_job(alloc, core, sink, job);
-    }
-    match finish_of(effects.as_slice()) {
-        Some(status) => Ok(Turn::Ends(status)),
-        None => Ok(Turn::GoesOn),
+    match job_of(alloc, effects.as_slice())? {
+        Some(job) => do_job(alloc, core, sink, job),
+        None => match finish_of(effects.as_slice()) {
+            Some(status) => Ok(Turn::Ends(status)),
+            None => Ok(Turn::GoesOn),
+        },
     }
 }
 
 /// Does a job, and writes its reply.
-fn do_job<K: Sink>(alloc: Global, core: &mut Core, sink: &mut K, job: Job) -> Mem<Turn> {
-    let event = match run_job(alloc, job) {
+fn do_job<K: Sink>(alloc: Global, core: &mut Core, sink: &mut K, job: Job) -> Mem<Turn>
+    ensures turn { (messages : List Parsed) (held : List ℕ) → Works messages core.old job held → K.held sink.old ≡ Some held
+        → EndsWork messages core.old core.new (K.held sink.new) result }
+    ensures cause { HasCause (K.faults sink.old) (K.faults sink.new) (result ≡ Ok Turn.SinkFailed) }
+{
+    let event = work(alloc, job);
+    let effects = core.step(alloc, event)?;
+    if !write_replies(alloc, sink, effects.as_slice())? {
+        return Ok(Turn::SinkFailed);
+    }
+    Ok(Turn::GoesOn)
+}
+
+/// The event of a job's end.
+fn work(alloc: Global, job: Job) -> Event
+    ensures { IsEndOf job result }
+{
+    match run_job(alloc, job) {
         JobAnswer::Done(done) => Event::Done(done),
         JobAnswer::Memory(job) => Event::NoMemory(job),
-    };
-    let effects = core.step(alloc, event)?;
-    if write_replies(alloc, sink, effects.as_slice())? {
-        Ok(Turn::GoesOn)
-    } else {
-        Ok(Turn::SinkFailed)
     }
 }
 
 /// Writes the frames of the replies among the effects, in order. False where the sink failed.
-fn write_replies<K: Sink>(alloc: Global, sink: &mut K, effects: &[Effect]) -> Mem<bool> {
+fn write_replies<K: Sink>(alloc: Global, sink: &mut K, effects: &[Effect]) -> Mem<bool>
+    ensures whole { IfOk result (λ whole. IsTrue whole → K.held sink.new ≡ append_known (K.held sink.old) (frames_of effects.now)) }
+    ensures part { (front : List ℕ) × (rest : List ℕ) × (frames_of effects.now ≡ front ++ rest) × (K.held sink.new ≡ append_known (K.held sink.old) front) }
+    ensures cause { HasCause (K.faults sink.old) (K.faults sink.new) (result ≡ Ok false) }
+{
     for effect in effects {
         if let Effect::Reply(reply) = effect {
             let frame = reply_text(alloc, reply)?;
@@ -64,7 +90,9 @@ fn write_replies<K: Sink>(alloc: Global, sink: &mut K, effects: &[Effect]) -> Me
 }
 
 /// The first job that the effects start.
-fn job_of(alloc: Global, effects: &[Effect]) -> Mem<Option<Job>> {
+fn job_of(alloc: Global, effects: &[Effect]) -> Mem<Option<Job>>
+    ensures { IfOk result (λ job. job ≡ first_of (jobs_of effects.now)) }
+{
     for effect in effects {
         if let Effect::StartJob(job) = effect {
             let job = job.duplicate(alloc)?;
@@ -75,7 +103,9 @@ fn job_of(alloc: Global, effects: &[Effect]) -> Mem<Option<Job>> {
 }
 
 /// The status with which the effects end the session, if they do.
-pub fn finish_of(effects: &[Effect]) -> Option<u8> {
+pub fn finish_of(effects: &[Effect]) -> Option<u8>
+    ensures { result ≡ finish_of effects.now }
+{
     for effect in effects {
         if let Effect::Finish(status) = effect {
             return Some(*status);

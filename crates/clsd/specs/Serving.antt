@@ -1,0 +1,73 @@
+-- What a session that is served keeps from message to message. `held` is what its sink holds.
+use Rattle.std.specs.Prelude.{◌≡◌, ℕ, ◌+◌, ◌≤◌, List, [], ◌∷◌, ◌++◌, Bool, true, false, if◌then◌else◌, Option, Some, None, Result, Ok, Err}
+use Rattle.cl_base.specs.declared.memory.Memory.{Memory}
+use Rattle.cl_query.specs.declared.job.Job.{Job}
+use Rattle.cl_rpc.specs.declared.call.Parsed.{Parsed}
+use Rattle.cl_core.specs.declared.core_state.Core.{Core}
+use Rattle.cl_core.specs.declared.event.Event.{Event}
+use Rattle.cl_core.specs.declared.event.Event.TheVariants as event
+use Rattle.cl_core.specs.History.{is_shut_down}
+use Rattle.cl_core.specs.Legal.{IsSettled}
+use Rattle.cl_core.specs.Written.{Writes}
+use Rattle.cl_core.specs.Steps.{is_exit}
+use Rattle.cl_core.specs.Standing.{IsIdle, StandsFor, jobs_out, past_of}
+use Rattle.clsd.specs.declared.turn.Turn.{Turn}
+use Rattle.clsd.specs.declared.turn.Turn.TheVariants.{GoesOn, Ends, SinkFailed}
+
+-- the core stands for these messages; the sink holds what its journal writes; no request was pending where a message
+-- was received, and none is
+pub record Keeps (messages : List Parsed) (core : Core) (held : List ℕ) : Type 0 where
+  pub stands : StandsFor messages core
+  pub writes : Writes messages (past_of core) held
+  pub settled : IsSettled messages (past_of core)
+  pub idle : IsIdle core
+
+-- the same while a job is out
+pub record Works (messages : List Parsed) (core : Core) (job : Job) (held : List ℕ) : Type 0 where
+  pub stands : StandsFor messages core
+  pub writes : Writes messages (past_of core) held
+  pub settled : IsSettled messages (past_of core)
+  pub out : jobs_out core ≡ job ∷ []
+  pub goes_on : core.ending ≡ None
+  pub not_over : core.finished ≡ false
+
+-- the session ended of itself, with no request pending
+pub record IsOver (messages : List Parsed) (core : Core) (held : List ℕ) : Type 0 where
+  pub stands : StandsFor messages core
+  pub writes : Writes messages (past_of core) held
+  pub settled : IsSettled messages (past_of core)
+  pub none_out : jobs_out core ≡ []
+
+-- the session was cut off: the sink holds a front of what its journal writes
+pub record IsCutOff (messages : List Parsed) (core : Core) (held : List ℕ) : Type 0 where
+  pub stands : StandsFor messages core
+  pub unwritten : List ℕ
+  pub writes : Writes messages (past_of core) (held ++ unwritten)
+  pub settled : IsSettled messages (past_of core)
+
+-- what the sink holds is known, and is so
+abbrev pub Holds : Option (List ℕ) → (List ℕ → Type 0) → Type 0
+Holds held P = (now : List ℕ) × (held ≡ Some now) × P now
+
+-- ---- a turn: a message with the job that it starts
+
+-- what the turn of a message leaves, by how it ended
+abbrev pub Turns : List Parsed → Core → Parsed → Core → Option (List ℕ) → Result Turn Memory → Type 0
+Turns messages old p new held (Ok GoesOn) = Holds held (Keeps messages new) × (new.messages ≡ old.messages + 1) × (is_exit p ≡ false)
+Turns messages old p new held (Ok (Ends status)) =
+    Holds held (IsOver messages new) × (new.messages ≡ old.messages + 1) × (is_exit p ≡ true) × (status ≡ (if is_shut_down messages (past_of old) then 0 else 1))
+Turns messages old p new held (Ok SinkFailed) = Holds held (IsCutOff messages new) × (new.messages ≤ old.messages + 1)
+Turns messages old p new held (Err memory) = Holds held (IsCutOff messages new) × (new.messages ≤ old.messages + 1)
+
+-- what the end of a job leaves
+abbrev pub EndsWork : List Parsed → Core → Core → Option (List ℕ) → Result Turn Memory → Type 0
+EndsWork messages old new held (Ok GoesOn) = Holds held (Keeps messages new) × (new.messages ≡ old.messages)
+EndsWork messages old new held (Ok (Ends status)) = ⊥
+EndsWork messages old new held (Ok SinkFailed) = Holds held (IsCutOff messages new) × (new.messages ≡ old.messages)
+EndsWork messages old new held (Err memory) = Holds held (IsCutOff messages new) × (new.messages ≡ old.messages)
+
+-- the event of a job's end
+abbrev pub IsEndOf : Job → Event → Type 0
+IsEndOf job (event.Done done) = done.job ≡ job
+IsEndOf job (event.NoMemory same) = same ≡ job
+IsEndOf job _ = ⊥
