@@ -2,3 +2,5 @@ pub mod Ended
 pub mod Effects
 pub mod Taking
 pub mod Texts
+pub mod Onto
+pub mod Dues
