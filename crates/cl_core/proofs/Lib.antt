@@ -4,3 +4,4 @@ pub mod Taking
 pub mod Texts
 pub mod Onto
 pub mod Dues
+pub mod Following
