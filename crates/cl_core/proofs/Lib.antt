@@ -2,5 +2,7 @@ pub mod Ended
 pub mod Effects
 pub mod Taking
 pub mod Texts
+pub mod Onto
+pub mod Dues
 pub mod Waits
 pub mod JobStands
