@@ -4,5 +4,10 @@ pub mod Taking
 pub mod Texts
 pub mod Onto
 pub mod Dues
+pub mod Following
 pub mod Waits
 pub mod JobStands
+pub mod Writing
+pub mod Turning
+pub mod Settling
+pub mod Kept
