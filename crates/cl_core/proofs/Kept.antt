@@ -1,7 +1,6 @@
 -- What each step keeps.
-use Rattle.std.proofs.Common.{◌≡◌, ℕ, List, [], ◌∷◌, ◌++◌, length, Bool, true, false, MatchBool, refl, sym, ap, ◌∙◌, subst}
+use Rattle.std.proofs.Common.{◌≡◌, ℕ, List, [], ◌∷◌, ◌++◌, length, Bool, true, false, MatchBool, Result, Ok, Err, OnErr, refl, sym, ap, ◌∙◌, subst}
 use Rattle.std.specs.Prelude.{Some, slice_get}
-use Rattle.cl_query.specs.AnswerOf.{AnswerOf}
 use Rattle.cl_rpc.specs.declared.call.Parsed.{Parsed}
 use Rattle.cl_rpc.specs.declared.out.How.TheVariants as how
 use Rattle.cl_rpc.specs.declared.out.Out.TheVariants as out
@@ -18,17 +17,14 @@ use Rattle.cl_core.proofs.JobStands.{same_stands, job_stands, stop_stands}
 use Rattle.cl_core.proofs.Writing.{message_writes, job_writes, stop_writes, nothing_writes}
 use Rattle.cl_core.proofs.Settling.{message_settles, job_settles, stop_settles}
 
--- a job that was done has its own answer
-abbrev pub IsValid : Event → Type 0
-IsValid (event.Message p) = Unit {0}
-IsValid (event.Done done) = AnswerOf done.job.kind done.job.path done.job.text done.answer
-IsValid (event.NoMemory job) = Unit {0}
-IsValid (event.End e) = Unit {0}
-
 -- a step does nothing, after the end, or goes on
 by_case : (b : Bool) (P Q R : Type 0) → (P → R) → (Q → R) → MatchBool b P Q → R
 by_case true P Q R f g m = f m
 by_case false P Q R f g m = g m
+
+pub on_err : {X E : Type 0} (r : Result X E) (P : Type 0) → P → OnErr r P
+on_err (Ok x) P p = tt
+on_err (Err e) P p = p
 
 -- ---- the facts
 
@@ -52,21 +48,21 @@ step_stands message_stands messages old new e effects next s steps = by_case old
 -- ---- the bytes
 
 writes_on : (messages : List Parsed) (old new : Core) (e : Event) (effects : List Effect) (bytes : List ℕ)
-    → IsValid e → IsNext messages old e → StandsFor messages old → StepsOn old e new effects
+    → IsNext messages old e → StandsFor messages old → StepsOn old e new effects
     → Writes messages (past_of old) bytes → Writes messages (past_of new) (bytes ++ frames_of effects)
-writes_on messages old new (event.Message p) effects bytes valid next s takes w = message_writes messages old new p effects bytes next s takes w
-writes_on messages old new (event.Done done) effects bytes valid next s c w =
-    job_writes messages old new done.job done.job.mark how.Answered (out.Answer done.answer) effects bytes s (done.answer, valid, refl) c w
-writes_on messages old new (event.NoMemory job) effects bytes valid next s c w =
+writes_on messages old new (event.Message p) effects bytes next s takes w = message_writes messages old new p effects bytes next s takes w
+writes_on messages old new (event.Done done) effects bytes next s c w =
+    job_writes messages old new done.job done.job.mark how.Answered (out.Answer done.answer) effects bytes s (done.answer, done.valid, refl) c w
+writes_on messages old new (event.NoMemory job) effects bytes next s c w =
     job_writes messages old new job (length old.journal) how.Memory (out.Error out_of_memory) effects bytes s refl c w
-writes_on messages old new (event.End e) effects bytes valid next s stops w = stop_writes messages old new e effects bytes stops w
+writes_on messages old new (event.End e) effects bytes next s stops w = stop_writes messages old new e effects bytes stops w
 
 pub step_writes : (messages : List Parsed) (old new : Core) (e : Event) (effects : List Effect) (bytes : List ℕ)
-    → IsValid e → IsNext messages old e → StandsFor messages old → Steps old e new effects
+    → IsNext messages old e → StandsFor messages old → Steps old e new effects
     → Writes messages (past_of old) bytes → Writes messages (past_of new) (bytes ++ frames_of effects)
-step_writes messages old new e effects bytes valid next s steps w = by_case old.finished _ _ (Writes messages (past_of new) (bytes ++ frames_of effects))
+step_writes messages old new e effects bytes next s steps w = by_case old.finished _ _ (Writes messages (past_of new) (bytes ++ frames_of effects))
     (λ q. nothing_writes messages old new effects bytes q.0 q.1 w)
-    (λ on. writes_on messages old new e effects bytes valid next s on w) steps
+    (λ on. writes_on messages old new e effects bytes next s on w) steps
 
 -- ---- one after another
 
