@@ -5,3 +5,4 @@ pub mod Texts
 pub mod Onto
 pub mod Dues
 pub mod Following
+pub mod Pending
