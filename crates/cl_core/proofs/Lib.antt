@@ -5,4 +5,7 @@ pub mod Texts
 pub mod Onto
 pub mod Dues
 pub mod Following
+pub mod Accepting
 pub mod Pending
+pub mod Asking
+pub mod MessageStands
