@@ -122,7 +122,7 @@ dues_if : (a b : Bool) (dues : List Due) (mark : ℕ) (h : How) (ws : List Waiti
 dues_if true b dues mark h ws e is = rw (← e) is
 dues_if false b dues mark h ws e is = rw (← e) refl
 
-is_some-text : (o : Option Doc) → is_some (option_map (λ (d : Doc). d.text) o) ≡ is_some o
+pub is_some-text : (o : Option Doc) → is_some (option_map (λ (d : Doc). d.text) o) ≡ is_some o
 is_some-text None = refl
 is_some-text (Some d) = refl
 

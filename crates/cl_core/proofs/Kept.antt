@@ -13,6 +13,7 @@ use Rattle.cl_core.specs.Legal.{IsSettled}
 use Rattle.cl_core.specs.Written.{Writes}
 use Rattle.cl_core.specs.Steps.{Takes, StepsOn, Steps}
 use Rattle.cl_core.specs.Standing.{past_of, StandsFor, IsNext, IsReady, frames_of}
+use Rattle.cl_core.proofs.MessageStands.{message_stands}
 use Rattle.cl_core.proofs.JobStands.{same_stands, job_stands, stop_stands}
 use Rattle.cl_core.proofs.Writing.{message_writes, job_writes, stop_writes, nothing_writes}
 use Rattle.cl_core.proofs.Settling.{message_settles, job_settles, stop_settles}
@@ -28,22 +29,18 @@ on_err (Err e) P p = p
 
 -- ---- the facts
 
-abbrev pub MessageStands : Type 0
-MessageStands = (messages : List Parsed) (old new : Core) (p : Parsed) (effects : List Effect)
-    → slice_get messages old.messages ≡ Some p → StandsFor messages old → Takes old p new effects → StandsFor messages new
-
-stands_on : MessageStands → (messages : List Parsed) (old new : Core) (e : Event) (effects : List Effect)
+stands_on : (messages : List Parsed) (old new : Core) (e : Event) (effects : List Effect)
     → IsNext messages old e → StandsFor messages old → StepsOn old e new effects → StandsFor messages new
-stands_on message_stands messages old new (event.Message p) effects next s takes = message_stands messages old new p effects next s takes
-stands_on message_stands messages old new (event.Done done) effects next s c = job_stands messages old new done.job done.job.mark how.Answered (out.Answer done.answer) effects s refl c
-stands_on message_stands messages old new (event.NoMemory job) effects next s c = job_stands messages old new job (length old.journal) how.Memory (out.Error out_of_memory) effects s refl c
-stands_on message_stands messages old new (event.End e) effects next s stops = stop_stands messages old new e effects s stops
+stands_on messages old new (event.Message p) effects next s takes = message_stands messages old new p effects next s takes
+stands_on messages old new (event.Done done) effects next s c = job_stands messages old new done.job done.job.mark how.Answered (out.Answer done.answer) effects s refl c
+stands_on messages old new (event.NoMemory job) effects next s c = job_stands messages old new job (length old.journal) how.Memory (out.Error out_of_memory) effects s refl c
+stands_on messages old new (event.End e) effects next s stops = stop_stands messages old new e effects s stops
 
-pub step_stands : MessageStands → (messages : List Parsed) (old new : Core) (e : Event) (effects : List Effect)
+pub step_stands : (messages : List Parsed) (old new : Core) (e : Event) (effects : List Effect)
     → IsNext messages old e → StandsFor messages old → Steps old e new effects → StandsFor messages new
-step_stands message_stands messages old new e effects next s steps = by_case old.finished _ _ (StandsFor messages new)
+step_stands messages old new e effects next s steps = by_case old.finished _ _ (StandsFor messages new)
     (λ q. same_stands messages old new q.0 s)
-    (λ on. stands_on message_stands messages old new e effects next s on) steps
+    (λ on. stands_on messages old new e effects next s on) steps
 
 -- ---- the bytes
 

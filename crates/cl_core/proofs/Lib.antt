@@ -11,3 +11,7 @@ pub mod Writing
 pub mod Turning
 pub mod Settling
 pub mod Kept
+pub mod Accepting
+pub mod Pending
+pub mod Asking
+pub mod MessageStands
