@@ -15,3 +15,4 @@ pub mod Accepting
 pub mod Pending
 pub mod Asking
 pub mod MessageStands
+pub mod Times
