@@ -2,3 +2,17 @@ pub mod Ended
 pub mod Effects
 pub mod Taking
 pub mod Texts
+pub mod Onto
+pub mod Dues
+pub mod Following
+pub mod Waits
+pub mod JobStands
+pub mod Writing
+pub mod Turning
+pub mod Settling
+pub mod Kept
+pub mod Accepting
+pub mod Pending
+pub mod Asking
+pub mod MessageStands
+pub mod Times

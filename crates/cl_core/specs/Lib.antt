@@ -6,3 +6,4 @@ pub mod Written
 pub mod Deciding
 pub mod Standing
 pub mod Steps
+pub mod Once
