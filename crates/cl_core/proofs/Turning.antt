@@ -28,7 +28,7 @@ use Rattle.cl_core.specs.Waiting.{same_id}
 use Rattle.cl_core.specs.Refusals.{out_of_memory}
 use Rattle.cl_core.specs.Deciding.{core_refusal, left_waiting, replies_of, started_by, started_if, waiting_for}
 use Rattle.cl_core.specs.Steps.{Takes, Replies, Completes, Stops, StepsOn, Steps, start_jobs, finish, finish_if, finishes, is_nil, is_exit, first_ending, status_of, ending_after, left_by, left_after, pending_after}
-use Rattle.cl_core.specs.Standing.{jobs_out, jobs_of, finish_of, IsIdle, TakesTurn, EndsTurn, Turns}
+use Rattle.cl_core.specs.Standing.{jobs_out, jobs_of, finish_of, IsIdle, TakesTurn, EndsTurn, EndsSession, Turns}
 
 abbrev pub job_of : Waiting → Job
 job_of w = w.job
@@ -167,6 +167,7 @@ takes_turn old new p effects takes idle =
       finish = ends;
       ending = takes.ending ∙ ending_for (is_exit p) old.ending status idle.goes_on ∙ sym ends;
       over = takes.finished ∙ over_for (is_exit p) old.ending status left idle.goes_on none_left ∙ sym (ap is_some ends);
+      none_after_exit = λ e. jobs ∙ ap (map job_of) (exit_starts_none old p e);
     }
 
 -- ---- the one job that is out ends
@@ -200,10 +201,14 @@ ends_turn old new job mark h o effects c out_now goes_on =
     ⊎_elim (λ r. reply_turn old new job mark h o effects r (none_after old one.0 job one.1 one.2) goes_on)
     (λ q. absurd (q.0 one.0 here one.2)) c
 
-pub stops_idle : (old new : Core) (e : Ending) (effects : List Effect) → Stops old e new effects → IsIdle old → effects ≡ effect.Finish (status_of e) ∷ []
+pub stops_idle : (old new : Core) (e : Ending) (effects : List Effect) → Stops old e new effects → IsIdle old → EndsSession old e new effects
 stops_idle old new e effects stops idle =
     let none : old.pending.items ≡ [] = none_mapped old.pending.items idle.none_out in
-    stops.effects_are ∙ ap (λ (o : Option ℕ). finish (first_ending o (status_of e)) old.pending.items) idle.goes_on ∙ ap (finish (Some (status_of e))) none
+    record {
+      count = ap (λ (core : Core). core.messages) stops.same;
+      none_out = ap jobs_out stops.same ∙ idle.none_out;
+      effects_are = stops.effects_are ∙ ap (λ (o : Option ℕ). finish (first_ending o (status_of e)) old.pending.items) idle.goes_on ∙ ap (finish (Some (status_of e))) none;
+    }
 
 pub step_turns : (old new : Core) (e : Event) (effects : List Effect) → Steps old e new effects → Turns old e new effects
 step_turns old new (event.Message p) effects steps = λ idle. takes_turn old new p effects (MatchBool-at_false _ _ idle.not_over steps) idle

@@ -10,6 +10,7 @@ use Rattle.cl_core.specs.declared.core_state.Core.{Core}
 use Rattle.cl_core.specs.declared.event.Entry.{Entry}
 use Rattle.cl_core.specs.declared.event.Effect.{Effect}
 use Rattle.cl_core.specs.declared.event.Effect.TheVariants as effect
+use Rattle.cl_core.specs.declared.event.Ending.{Ending}
 use Rattle.cl_core.specs.declared.event.Event.{Event}
 use Rattle.cl_core.specs.declared.event.Event.TheVariants as event
 use Rattle.cl_core.specs.declared.waiting.Waiting.{Waiting}
@@ -95,6 +96,7 @@ pub record TakesTurn (old : Core) (p : Parsed) (new : Core) (effects : List Effe
   pub finish : finish_of effects ≡ (if is_exit p then Some (if old.shut_down then 0 else 1) else None)
   pub ending : new.ending ≡ finish_of effects
   pub over : new.finished ≡ is_some (finish_of effects)
+  pub none_after_exit : is_exit p ≡ true → jobs_of effects ≡ []
 
 -- after its job none is out
 pub record EndsTurn (old new : Core) (effects : List Effect) : Type 0 where
@@ -103,11 +105,17 @@ pub record EndsTurn (old new : Core) (effects : List Effect) : Type 0 where
   pub none_started : jobs_of effects ≡ []
   pub goes_on : finish_of effects ≡ None
 
+-- the end of the input ends the session
+pub record EndsSession (old : Core) (how_it_ended : Ending) (new : Core) (effects : List Effect) : Type 0 where
+  pub count : new.messages ≡ old.messages
+  pub none_out : jobs_out new ≡ []
+  pub effects_are : effects ≡ effect.Finish (status_of how_it_ended) ∷ []
+
 abbrev pub Turns : Core → Event → Core → List Effect → Type 0
 Turns old (event.Message p) new effects = IsIdle old → TakesTurn old p new effects
 Turns old (event.Done done) new effects = jobs_out old ≡ done.job ∷ [] → old.ending ≡ None → old.finished ≡ false → EndsTurn old new effects
 Turns old (event.NoMemory job) new effects = jobs_out old ≡ job ∷ [] → old.ending ≡ None → old.finished ≡ false → EndsTurn old new effects
-Turns old (event.End e) new effects = IsIdle old → effects ≡ effect.Finish (status_of e) ∷ []
+Turns old (event.End e) new effects = IsIdle old → EndsSession old e new effects
 
 -- no job is out where a message is taken
 abbrev pub IsReady : Core → Event → Type 0
