@@ -4,6 +4,9 @@ use Rattle.cl_base.specs.declared.memory.Memory.{Memory}
 use Rattle.cl_query.specs.declared.job.Job.{Job}
 use Rattle.cl_rpc.specs.declared.call.Parsed.{Parsed}
 use Rattle.cl_core.specs.declared.core_state.Core.{Core}
+use Rattle.cl_rpc.specs.Replies.{reply_frame}
+use Rattle.cl_core.specs.declared.event.Effect.{Effect}
+use Rattle.cl_core.specs.declared.event.Effect.TheVariants as effect
 use Rattle.cl_core.specs.declared.event.Event.{Event}
 use Rattle.cl_core.specs.declared.event.Event.TheVariants as event
 use Rattle.cl_core.specs.History.{is_shut_down}
@@ -71,3 +74,8 @@ abbrev pub IsEndOf : Job → Event → Type 0
 IsEndOf job (event.Done done) = done.job ≡ job
 IsEndOf job (event.NoMemory same) = same ≡ job
 IsEndOf job _ = ⊥
+
+-- the frame that an effect writes, if it is a reply
+abbrev pub frame_of : Effect → List ℕ
+frame_of (effect.Reply r) = reply_frame r
+frame_of _ = []

@@ -1,10 +1,10 @@
-ghost use Rattle.std.specs.Prelude.{◌≡◌, ◌++◌, ℕ, List, Option, Some, Ok, IfOk, IsTrue, false, slice_get};
+ghost use Rattle.std.specs.Prelude.{◌≡◌, ◌++◌, ℕ, List, Option, Some, Ok, IfOk, IsTrue, false, slice_get, take};
 ghost use Rattle.std.specs.Io.KnownBytes.{append_known};
 ghost use Rattle.cl_base.specs.Faults.{HasCause};
 ghost use Rattle.cl_rpc.specs.declared.call.Parsed.{Parsed};
 ghost use Rattle.cl_core.specs.Standing.{finish_of, frames_of, jobs_of};
 ghost use Rattle.clsd.specs.First.{first_of};
-ghost use Rattle.clsd.specs.Serving.{EndsWork, IsEndOf, Keeps, Turns, Works};
+ghost use Rattle.clsd.specs.Serving.{frame_of, EndsWork, IsEndOf, Keeps, Turns, Works};
 
 use cl_base::{Duplicate, Mem};
 use cl_core::{Core, Effect, Event};
@@ -79,14 +79,30 @@ fn write_replies<K: Sink>(alloc: Global, sink: &mut K, effects: &[Effect]) -> Me
     ensures cause { HasCause (K.faults sink.old) (K.faults sink.new) (result ≡ Ok false) }
 {
     for effect in effects {
-        if let Effect::Reply(reply) = effect {
-            let frame = reply_text(alloc, reply)?;
-            if let Written::Failed { .. } = write_frame(sink, &frame) {
-                return Ok(false);
-            }
+        if !write_reply(alloc, sink, effect)? {
+            return Ok(false);
         }
     }
     Ok(true)
+}
+
+/// Writes the frame of the reply, if the effect is one. False where the sink failed.
+fn write_reply<K: Sink>(alloc: Global, sink: &mut K, effect: &Effect) -> Mem<bool>
+    ensures whole { IfOk result (λ whole. IsTrue whole → K.held sink.new ≡ append_known (K.held sink.old) (frame_of effect.now)) }
+    ensures part { (n : ℕ) × (K.held sink.new ≡ append_known (K.held sink.old) (take n (frame_of effect.now))) }
+    ensures cause { HasCause (K.faults sink.old) (K.faults sink.new) (result ≡ Ok false) }
+{
+    match effect {
+        Effect::Reply(reply) => {
+            let frame = reply_text(alloc, reply)?;
+            match write_frame(sink, &frame) {
+                Written::All => Ok(true),
+                Written::Failed { .. } => Ok(false),
+            }
+        }
+        Effect::StartJob(_) => Ok(true),
+        Effect::Finish(_) => Ok(true),
+    }
 }
 
 /// The first job that the effects start.
