@@ -1,8 +1,8 @@
 -- In a legal journal each request gets one reply.
-use Rattle.std.proofs.Common.{◌≡◌, ℕ, ℤ, zero, suc, ◌+◌, ◌<◌, ◌≤◌, ◌&&◌, ◌||◌, min, List, [], ◌∷◌, ◌++◌, length, map, filter, Bool, true, false, not, if◌then◌else◌, refl, sym, ap, ◌∙◌, subst, arith, nat_eq, eq-eqb, eqb-true}
+use Rattle.std.proofs.Common.{◌≡◌, ℕ, ℤ, ◌+◌, ◌<◌, ◌≤◌, ◌&&◌, ◌||◌, min, List, [], ◌∷◌, map, filter, Bool, true, false, not, if◌then◌else◌, refl, sym, ap, ◌∙◌, subst, arith, nat_eq, eq-eqb, eqb-true}
 use Rattle.std.proofs.lemmas.Bool.{eqb-false}
 use Rattle.std.specs.List.{AllByRecursion}
-use Rattle.std.specs.Prelude.{Contains, Option, Some, None, is_some}
+use Rattle.std.specs.Prelude.{Option, Some, None, is_some}
 use Rattle.cl_rpc.specs.declared.id.Id.{Id}
 use Rattle.cl_rpc.specs.declared.call.Call.{Call}
 use Rattle.cl_rpc.specs.declared.call.Call.TheVariants as call
@@ -13,8 +13,8 @@ use Rattle.cl_rpc.specs.declared.out.How.TheVariants as how
 use Rattle.cl_core.specs.declared.event.Entry.{Entry}
 use Rattle.cl_core.specs.declared.event.Entry.TheVariants.{In, Load, Reply, Notify}
 use Rattle.cl_core.specs.Refusals.{is_initialize, is_request, not_initialized, invalid_request, method_not_found, invalid_params, has_bad_params, first_that, refusal_of, is_open, document_of}
-use Rattle.cl_core.specs.History.{said, received, is_initialised, is_shut_down, is_pending, text_at, is_query, pending, pending_by, pending_on, asks_by, asks_on, without, refusal}
-use Rattle.cl_core.specs.Legal.{Due, all_as, due_to_request, due_to_notice, due_to, rest_of, owed, MayAnswer, MayReply, MayFollow, AllFollow, IsLegal}
+use Rattle.cl_core.specs.History.{said, received, is_initialised, is_shut_down, is_pending, text_at, is_query, pending, pending_on, asks_by, asks_on, without, refusal}
+use Rattle.cl_core.specs.Legal.{Due, all_as, due_to_request, due_to_notice, due_to, rest_of, owed, MayReply, AllFollow, IsLegal}
 use Rattle.cl_core.specs.Once.{count_replies, wants_reply, AreOnce}
 use Rattle.cl_core.proofs.Times.{bit, bit_le, times, times_append, times_filter, times_gone, times_kept, times_found}
 
@@ -124,13 +124,13 @@ is_asked : (initialised shut_down pending_now stands : Bool) (c : Call) → refu
     → (not (is_request c) ≡ false) × (has_bad_params c ≡ false)
 is_asked initialised shut_down pending_now stands c e =
     let none = no_reason
-        ((not initialised && not (is_initialize c), not_initialized)
-        ∷ ((initialised && is_initialize c) || shut_down, invalid_request)
-        ∷ (pending_now, invalid_request)
-        ∷ (not (is_request c), method_not_found)
-        ∷ (has_bad_params c, invalid_params)
-        ∷ (not stands, invalid_params)
-        ∷ []) e in
+    ((not initialised && not (is_initialize c), not_initialized)
+    ∷ ((initialised && is_initialize c) || shut_down, invalid_request)
+    ∷ (pending_now, invalid_request)
+    ∷ (not (is_request c), method_not_found)
+    ∷ (has_bad_params c, invalid_params)
+    ∷ (not stands, invalid_params)
+    ∷ []) e in
     (none.1.1.1.0, none.1.1.1.1.0)
 
 asked_due : (k : ℕ) (i : Id) (o : Option ℤ) (c : Call) → (o ≡ None → (not (is_request c) ≡ false) × (has_bad_params c ≡ false))
@@ -180,7 +180,7 @@ told_itself messages past k first settled follow a =
     let b = bit_le (is_query p) in
     let one = eq-eqb k k refl in
     let some : times k (pending messages (In k ∷ past)) ≡ bit (is_query p) =
-        times_append k (pending messages past) (if is_query p then k ∷ [] else []) ∙ rw (none, extra_itself (is_query p) k) (omega arith) in
+    times_append k (pending messages past) (if is_query p then k ∷ [] else []) ∙ rw (none, extra_itself (is_query p) k) (omega arith) in
     let same : bit (nat_eq k k) ≡ 1 = ap bit one in
     let dues = message_due messages past k p k in
     let due = itself_due messages past k p none in
@@ -199,7 +199,7 @@ told_other messages past k n apart settled a =
     let told = a.told in
     let few = a.pending_once in
     let same : times n (pending messages (In k ∷ past)) ≡ times n (pending messages past) =
-        times_append n (pending messages past) (if is_query p then k ∷ [] else []) ∙ rw (extra_times (is_query p) n k apart) (omega arith) in
+    times_append n (pending messages past) (if is_query p then k ∷ [] else []) ∙ rw (extra_times (is_query p) n k apart) (omega arith) in
     let other : bit (nat_eq k n) ≡ 0 = ap bit apart in
     let dues = message_due messages past k p n in
     record {
