@@ -1,7 +1,6 @@
 -- What holds where a request is accepted.
 use Rattle.std.proofs.Common.{◌≡◌, ℕ, ℤ, sym, List, [], ◌∷◌, ◌++◌, refl, Bool, true, false, Some, None, Option}
 use Rattle.std.specs.Prelude.{◌&&◌, ◌||◌, not, if◌then◌else◌, is_some}
-use Rattle.std.specs.List.{AllByRecursion}
 use Rattle.std.proofs.lemmas.Bool.{not-false, true≢false}
 use Rattle.cl_rpc.specs.declared.call.Call.{Call}
 use Rattle.cl_rpc.specs.declared.call.Call.TheVariants as call
@@ -18,11 +17,11 @@ no_last (r ∷ rs) b code e = no_last rs b code (no_first r.0 r.1 (first_that (r
 pub open_if_accepted : (initialised shut_down pending stands : Bool) (c : Call) → refusal_of initialised shut_down pending stands c ≡ None → stands ≡ true
 open_if_accepted initialised shut_down pending stands c e =
     let front : List (Bool × ℤ) = (not initialised && not (is_initialize c), not_initialized)
-        ∷ ((initialised && is_initialize c) || shut_down, invalid_request)
-        ∷ (pending, invalid_request)
-        ∷ (not (is_request c), method_not_found)
-        ∷ (has_bad_params c, invalid_params)
-        ∷ [] in
+    ∷ ((initialised && is_initialize c) || shut_down, invalid_request)
+    ∷ (pending, invalid_request)
+    ∷ (not (is_request c), method_not_found)
+    ∷ (has_bad_params c, invalid_params)
+    ∷ [] in
     not-false stands (no_last front (not stands) invalid_params e)
 
 pub initialised_if_accepted : (initialised shut_down pending stands : Bool) (path : List ℕ) → refusal_of initialised shut_down pending stands (call.Symbols path) ≡ None → initialised ≡ true

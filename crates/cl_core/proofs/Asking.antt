@@ -1,6 +1,6 @@
 -- The requests that wait stand in the history after a message, too.
-use Rattle.std.proofs.Common.{◌≡◌, ℕ, ℤ, ◌+◌, ◌<◌, ◌≤◌, List, [], ◌∷◌, ◌++◌, map, filter, length, reverse, ap, sym, ◌∙◌, refl, subst, arith, Bool, true, false, Some, None, Option}
-use Rattle.std.specs.Prelude.{◌&&◌, ◌||◌, not, is_some, nat_eq, if◌then◌else◌, slice_get, option_map}
+use Rattle.std.proofs.Common.{◌≡◌, ℕ, ℤ, ◌+◌, ◌<◌, ◌≤◌, List, [], ◌∷◌, ◌++◌, map, filter, length, ap, sym, ◌∙◌, refl, arith, Bool, true, false, Some, None, Option}
+use Rattle.std.specs.Prelude.{not, is_some, nat_eq, if◌then◌else◌, slice_get, option_map}
 use Rattle.std.specs.List.{list_any, AllByRecursion}
 use Rattle.std.specs.Str.{bytes_eq}
 use Rattle.std.proofs.lemmas.Bool.{eq-eqb, ne_eqb, or_right}
@@ -19,11 +19,11 @@ use Rattle.cl_core.specs.declared.event.Entry.{Entry}
 use Rattle.cl_core.specs.declared.event.Entry.TheVariants as entry
 use Rattle.cl_core.specs.declared.waiting.Waiting.{Waiting}
 use Rattle.cl_core.specs.Waiting.{same_id, has_id}
-use Rattle.cl_core.specs.Refusals.{is_open, document_of}
+use Rattle.cl_core.specs.Refusals.{is_open}
 use Rattle.cl_core.specs.History.{said, received, is_initialised, text_at, initialises}
 use Rattle.cl_core.specs.Legal.{place}
 use Rattle.cl_core.specs.Written.{before}
-use Rattle.cl_core.specs.Deciding.{texts_of, core_refusal, entry_of, left_waiting, waiting_for, started_if, started_by, replies_of}
+use Rattle.cl_core.specs.Deciding.{texts_of, core_refusal, entry_of, left_waiting, waiting_for, started_if, started_by}
 use Rattle.cl_core.specs.Steps.{pending_after, left_by}
 use Rattle.cl_core.specs.Standing.{Asks, StandsFor, past_of}
 use Rattle.cl_core.proofs.Onto.{onto, length_onto, unchanged}
@@ -106,17 +106,19 @@ newly_asks messages core rs i path (Some doc) is stands on found =
     let before_now : before new n ≡ past = unchanged (λ some. before some n) (λ k mark h some. refl) rs next ∙ rw itself refl in
     let place_now : place new n ≡ length past = unchanged (λ some. place some n) (λ k mark h some. refl) rs next ∙ rw itself refl in
     let on_now : is_initialised messages new ≡ true = unchanged (is_initialised messages) (λ k mark h some. refl) rs next
-        ∙ or_right (initialises (said messages n)) (is_initialised messages past) (sym stands.initialised ∙ on) in
+    ∙ or_right (initialises (said messages n)) (is_initialised messages past) (sym stands.initialised ∙ on) in
     let longer : length new ≡ length (map entry_of rs) + length next = length_onto (map entry_of rs) next in
-    let same_length : length past ≡ length core.journal = length-reverse core.journal in
-    (record {
-      said_so = is;
-      received_so = omega arith;
-      over = ap (λ (some : List Entry). text_at messages some path) before_now ∙ sym (stands.texts path) ∙ ap (option_map (λ (d : Doc). d.text)) found;
-      later = omega arith;
-      by_now = omega arith;
-      initialised = on_now;
-    }, tt)
+    let same_length : length past ≡ length core.journal = length-reverse core.journal in (
+      record {
+        said_so = is;
+        received_so = omega arith;
+        over = ap (λ (some : List Entry). text_at messages some path) before_now ∙ sym (stands.texts path) ∙ ap (option_map (λ (d : Doc). d.text)) found;
+        later = omega arith;
+        by_now = omega arith;
+        initialised = on_now;
+      },
+      tt,
+    )
 
 all_started_if : (messages : List Parsed) (core : Core) (rs : List Reply) (i : Id) (code : Option ℤ) (c : Call)
     → slice_get messages core.messages ≡ Some (parsed.Request i c) → StandsFor messages core → core_refusal core i c ≡ code
@@ -150,4 +152,4 @@ all_ask messages core rs p is stands =
     let kept = all_left P core p (all_still_ask messages (past_of core) core.messages rs stands.count core.pending.items stands.asks) in
     recursion_from_All P (left_by core p ++ started_by core p)
     (All-append P (left_by core p) (started_by core p) (All-from_recursion P (left_by core p) kept)
-        (All-from_recursion P (started_by core p) (all_started messages core rs p is stands)))
+    (All-from_recursion P (started_by core p) (all_started messages core rs p is stands)))

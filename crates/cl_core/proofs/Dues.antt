@@ -1,5 +1,5 @@
 -- What is due after a message is what the core replies.
-use Rattle.std.proofs.Common.{◌≡◌, ℕ, ℤ, ◌+◌, List, [], ◌∷◌, ◌++◌, map, filter, length, reverse, ap, sym, ◌∙◌, refl, subst, Bool, true, false, Some, None, Option}
+use Rattle.std.proofs.Common.{◌≡◌, ℕ, ℤ, ◌+◌, List, [], ◌∷◌, map, filter, length, reverse, ap, sym, ◌∙◌, refl, Bool, true, false, Some, None, Option}
 use Rattle.std.specs.Prelude.{is_some, option_map, slice_get, unwrap_or, if◌then◌else◌}
 use Rattle.std.specs.List.{list_any, AllByRecursion}
 use Rattle.std.specs.Str.{bytes_eq}
@@ -78,7 +78,7 @@ same_refusal messages core i c stands =
     ∙ ap (λ (b : Bool). refusal_of core.initialised b (is_pending messages past i) (is_open (text_at messages past) (document_of c)) c) (sym stands.shut_down)
     ∙ ap (λ (b : Bool). refusal_of core.initialised core.shut_down b (is_open (text_at messages past) (document_of c)) c) (waits_if_pending messages core i stands)
     ∙ ap (λ (b : Bool). refusal_of core.initialised core.shut_down (list_any (has_id i) core.pending.items) b c)
-        (same_open (text_at messages past) (texts_of core.docs) (λ path. sym (stands.texts path)) (document_of c))
+    (same_open (text_at messages past) (texts_of core.docs) (λ path. sym (stands.texts path)) (document_of c))
 
 -- ---- the past after a message
 

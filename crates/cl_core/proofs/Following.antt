@@ -1,5 +1,5 @@
 -- The replies that are due follow.
-use Rattle.std.proofs.Common.{◌≡◌, ℕ, ℤ, ◌+◌, List, [], ◌∷◌, map, length, suc, ap, sym, ◌∙◌, refl, arith, Bool, true, false, Some, None, Option}
+use Rattle.std.proofs.Common.{◌≡◌, ℕ, ℤ, ◌+◌, List, [], ◌∷◌, map, length, ap, ◌∙◌, refl, arith, Bool, true, false, Some, None, Option}
 use Rattle.std.specs.Prelude.{if◌then◌else◌}
 use Rattle.cl_rpc.specs.declared.id.Id.{Id}
 use Rattle.cl_rpc.specs.declared.call.Call.{Call}
@@ -10,9 +10,8 @@ use Rattle.cl_rpc.specs.declared.out.How.{How}
 use Rattle.cl_rpc.specs.declared.out.Reply.{Reply}
 use Rattle.cl_core.specs.declared.core_state.Core.{Core}
 use Rattle.cl_core.specs.declared.event.Entry.{Entry}
-use Rattle.cl_core.specs.declared.event.Entry.TheVariants as entry
 use Rattle.cl_core.specs.declared.waiting.Waiting.{Waiting}
-use Rattle.cl_core.specs.Legal.{Due, MayReply, AllFollow, owed, rest_of}
+use Rattle.cl_core.specs.Legal.{MayReply, AllFollow, owed, rest_of}
 use Rattle.cl_core.specs.Deciding.{core_refusal, entry_of, ended, ended_waiting, how_ended, replies_to_request, replies_of}
 use Rattle.cl_core.proofs.Onto.{onto}
 use Rattle.cl_core.proofs.Dues.{due_of}

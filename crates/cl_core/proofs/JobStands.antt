@@ -1,6 +1,6 @@
 -- The end of a job, the end of the input and a step that wants memory keep what a core stands for.
-use Rattle.std.proofs.Common.{◌≡◌, ◌⊎◌, ⊎_elim, ℕ, ◌+◌, ◌<◌, ◌≤◌, List, [], ◌∷◌, ◌++◌, length, map, reverse, filter, Bool, true, false, not, refl, sym, ap, ◌∙◌, subst, arith, nat_eq}
-use Rattle.std.specs.Prelude.{Contains, Option, Some, None}
+use Rattle.std.proofs.Common.{◌≡◌, ⊎_elim, ℕ, ◌<◌, ◌≤◌, List, [], ◌∷◌, ◌++◌, length, map, reverse, not, sym, ap, ◌∙◌, subst, arith, nat_eq}
+use Rattle.std.specs.Prelude.{Contains}
 use Rattle.std.specs.List.{AllByRecursion}
 use Rattle.std.proofs.lemmas.List.{reverse-append, length-reverse}
 use Rattle.cl_rpc.specs.declared.call.Parsed.{Parsed}
@@ -15,8 +15,7 @@ use Rattle.cl_core.specs.declared.event.Ending.{Ending}
 use Rattle.cl_core.specs.declared.event.Effect.{Effect}
 use Rattle.cl_core.specs.declared.waiting.Waiting.{Waiting}
 use Rattle.cl_core.specs.History.{received, is_initialised, is_shut_down, text_at, pending, without}
-use Rattle.cl_core.specs.Legal.{Due, owed, rest_of, place, MayAnswer, MayReply, MayFollow, AllFollow}
-use Rattle.cl_core.specs.Deciding.{texts_of}
+use Rattle.cl_core.specs.Legal.{Due, owed, rest_of, place, MayAnswer, MayReply, AllFollow}
 use Rattle.cl_core.specs.Steps.{Replies, Completes, Stops, IsAsBefore, left_after}
 use Rattle.cl_core.specs.Standing.{past_of, Asks, StandsFor}
 use Rattle.cl_core.proofs.Waits.{messages_left, contains_as, one_of, all_left}
@@ -46,13 +45,15 @@ asks_on_after messages past m mark h w a =
 may_answer : (messages : List Parsed) (core : Core) (w : Waiting) (mark : ℕ) (h : How)
     → StandsFor messages core → Contains core.pending.items w → IsGiven core w.job mark h → MayAnswer messages (past_of core) w.job.message mark h
 may_answer messages core w mark how.Answered s waits given =
-    let a = one_of (Asks messages (past_of core)) core.pending.items w s.asks waits in
-    ( subst (λ (ns : List ℕ). Contains ns w.job.message) s.waiting (contains_as (λ (v : Waiting). v.job.message) core.pending.items w waits)
-    , subst (λ (k : ℕ). place (past_of core) w.job.message < k) (sym given) a.later
-    , subst (λ (k : ℕ). k ≤ length (past_of core)) (sym given) a.by_now )
-may_answer messages core w mark how.Memory s waits given =
-    ( subst (λ (ns : List ℕ). Contains ns w.job.message) s.waiting (contains_as (λ (v : Waiting). v.job.message) core.pending.items w waits)
-    , given ∙ sym (length-reverse core.journal) )
+    let a = one_of (Asks messages (past_of core)) core.pending.items w s.asks waits in (
+      subst (λ (ns : List ℕ). Contains ns w.job.message) s.waiting (contains_as (λ (v : Waiting). v.job.message) core.pending.items w waits),
+      subst (λ (k : ℕ). place (past_of core) w.job.message < k) (sym given) a.later,
+      subst (λ (k : ℕ). k ≤ length (past_of core)) (sym given) a.by_now,
+    )
+may_answer messages core w mark how.Memory s waits given = (
+  subst (λ (ns : List ℕ). Contains ns w.job.message) s.waiting (contains_as (λ (v : Waiting). v.job.message) core.pending.items w waits),
+  given ∙ sym (length-reverse core.journal),
+)
 may_answer messages core w mark how.Refused s waits given = absurd given
 may_answer messages core w mark how.Cancelled s waits given = absurd given
 may_answer messages core w mark how.Modified s waits given = absurd given
@@ -62,13 +63,13 @@ pub reply_stands : (messages : List Parsed) (old new : Core) (job : Job) (mark :
 reply_stands messages old new job mark h o effects s given r =
     let past : past_of new ≡ entry.Reply job.message mark h ∷ past_of old = past_of_reply old new job mark h o effects r in
     let may : MayAnswer messages (past_of old) job.message mark h =
-        subst (λ (j : Job). MayAnswer messages (past_of old) j.message mark h) r.same_job
-        (may_answer messages old r.waiting mark h s r.waits (subst (λ (j : Job). IsGiven old j mark h) (sym r.same_job) given)) in
+    subst (λ (j : Job). MayAnswer messages (past_of old) j.message mark h) r.same_job
+    (may_answer messages old r.waiting mark h s r.waits (subst (λ (j : Job). IsGiven old j mark h) (sym r.same_job) given)) in
     let follows : MayReply messages (past_of old) (owed messages (past_of old)) job.message mark h =
-        subst (λ (due : List Due). MayReply messages (past_of old) due job.message mark h) (sym s.none_due) may in
+    subst (λ (due : List Due). MayReply messages (past_of old) due job.message mark h) (sym s.none_due) may in
     let left : AllByRecursion (Asks messages (entry.Reply job.message mark h ∷ past_of old)) (left_after old job.message) =
-        all_left (Asks messages (past_of old)) (Asks messages (entry.Reply job.message mark h ∷ past_of old)) (λ (w : Waiting). not (nat_eq w.job.message job.message)) old.pending.items
-        (asks_on_after messages (past_of old) job.message mark h) s.asks in
+    all_left (Asks messages (past_of old)) (Asks messages (entry.Reply job.message mark h ∷ past_of old)) (λ (w : Waiting). not (nat_eq w.job.message job.message)) old.pending.items
+    (asks_on_after messages (past_of old) job.message mark h) s.asks in
     record {
       initialised = r.initialised ∙ s.initialised ∙ sym (ap (is_initialised messages) past);
       shut_down = r.shut_down ∙ s.shut_down ∙ sym (ap (is_shut_down messages) past);

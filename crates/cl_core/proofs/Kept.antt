@@ -1,6 +1,5 @@
 -- What each step keeps.
-use Rattle.std.proofs.Common.{◌≡◌, ℕ, List, [], ◌∷◌, ◌++◌, length, Bool, true, false, MatchBool, Result, Ok, Err, OnErr, refl, sym, ap, ◌∙◌, subst}
-use Rattle.std.specs.Prelude.{Some, slice_get}
+use Rattle.std.proofs.Common.{ℕ, List, ◌++◌, length, Bool, true, false, MatchBool, Result, Ok, Err, OnErr, refl, sym, subst}
 use Rattle.cl_rpc.specs.declared.call.Parsed.{Parsed}
 use Rattle.cl_rpc.specs.declared.out.How.TheVariants as how
 use Rattle.cl_rpc.specs.declared.out.Out.TheVariants as out
@@ -11,7 +10,7 @@ use Rattle.cl_core.specs.declared.event.Effect.{Effect}
 use Rattle.cl_core.specs.Refusals.{out_of_memory}
 use Rattle.cl_core.specs.Legal.{IsSettled}
 use Rattle.cl_core.specs.Written.{Writes}
-use Rattle.cl_core.specs.Steps.{Takes, StepsOn, Steps}
+use Rattle.cl_core.specs.Steps.{StepsOn, Steps}
 use Rattle.cl_core.specs.Standing.{past_of, StandsFor, IsNext, IsReady, frames_of}
 use Rattle.cl_core.proofs.MessageStands.{message_stands}
 use Rattle.cl_core.proofs.JobStands.{same_stands, job_stands, stop_stands}

@@ -16,3 +16,4 @@ pub mod Pending
 pub mod Asking
 pub mod MessageStands
 pub mod Times
+pub mod Once

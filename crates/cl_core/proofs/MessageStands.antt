@@ -1,22 +1,19 @@
 -- After a message a core stands for its journal still.
-use Rattle.std.proofs.Common.{◌≡◌, ℕ, ℤ, ◌+◌, List, [], ◌∷◌, map, length, ap, sym, ◌∙◌, refl, subst, arith, Bool, true, false, Some, None, Option}
+use Rattle.std.proofs.Common.{◌≡◌, ℕ, ◌+◌, List, [], ◌∷◌, map, length, ap, sym, ◌∙◌, refl, subst, arith, Bool, true, false, Some}
 use Rattle.std.specs.Prelude.{◌&&◌, ◌||◌, not, is_some, slice_get}
 use Rattle.std.specs.List.{list_any, AllByRecursion}
-use Rattle.std.proofs.lemmas.Bool.{or_left, or_right, or_cases, and_parts, false≢true}
+use Rattle.std.proofs.lemmas.Bool.{or_right, false≢true}
 use Rattle.std.proofs.lemmas.List.{length-reverse}
 use Rattle.cl_rpc.specs.declared.id.Id.{Id}
-use Rattle.cl_rpc.specs.declared.call.Call.{Call}
 use Rattle.cl_rpc.specs.declared.call.Call.TheVariants as call
 use Rattle.cl_rpc.specs.declared.call.Parsed.{Parsed}
 use Rattle.cl_rpc.specs.declared.call.Parsed.TheVariants as parsed
-use Rattle.cl_rpc.specs.declared.out.Reply.{Reply}
 use Rattle.cl_core.specs.declared.core_state.Core.{Core}
 use Rattle.cl_core.specs.declared.event.Entry.{Entry}
 use Rattle.cl_core.specs.declared.event.Entry.TheVariants as entry
 use Rattle.cl_core.specs.declared.event.Effect.{Effect}
 use Rattle.cl_core.specs.declared.waiting.Waiting.{Waiting}
 use Rattle.cl_core.specs.Waiting.{has_id}
-use Rattle.cl_core.specs.Refusals.{refusal_of}
 use Rattle.cl_core.specs.History.{said, received, is_initialised, is_shut_down, is_fresh, is_pending, initialises, shuts_down, text_at, text_after, pending}
 use Rattle.cl_core.specs.Legal.{AllFollow, owed}
 use Rattle.cl_core.specs.Deciding.{texts_of, core_refusal, entry_of, replies_of}
@@ -123,11 +120,11 @@ message_stands messages old new p effects is stands takes =
     let due : owed messages next ≡ map due_of rs = owed_first messages old p is stands in
     let long : length old.journal + 1 ≡ length next = ap (λ (n : ℕ). n + 1) (sym (length-reverse old.journal)) ∙ omega arith in
     let on : new.initialised ≡ is_initialised messages (past_of new) = takes.initialised ∙ same_initialised messages old p stands
-        ∙ ap (λ (q : Parsed). initialises q || is_initialised messages (past_of old)) (sym says)
-        ∙ sym (ap (is_initialised messages) here ∙ unchanged (is_initialised messages) (λ k mark h some. refl) rs next) in
+    ∙ ap (λ (q : Parsed). initialises q || is_initialised messages (past_of old)) (sym says)
+    ∙ sym (ap (is_initialised messages) here ∙ unchanged (is_initialised messages) (λ k mark h some. refl) rs next) in
     let over : new.shut_down ≡ is_shut_down messages (past_of new) = takes.shut_down ∙ same_shut_down messages old p stands
-        ∙ ap (λ (q : Parsed). (shuts_down q && (is_initialised messages (past_of old) && is_fresh messages (past_of old) q)) || is_shut_down messages (past_of old)) (sym says)
-        ∙ sym (ap (is_shut_down messages) here ∙ unchanged (is_shut_down messages) (λ k mark h some. refl) rs next) in
+    ∙ ap (λ (q : Parsed). (shuts_down q && (is_initialised messages (past_of old) && is_fresh messages (past_of old) q)) || is_shut_down messages (past_of old)) (sym says)
+    ∙ sym (ap (is_shut_down messages) here ∙ unchanged (is_shut_down messages) (λ k mark h some. refl) rs next) in
     record {
       initialised = on;
       shut_down = over;

@@ -1,5 +1,5 @@
 -- The requests that are pending after the replies to a message.
-use Rattle.std.proofs.Common.{◌≡◌, ℕ, ℤ, ◌+◌, ◌<◌, List, [], ◌∷◌, ◌++◌, map, filter, length, ap, sym, ◌∙◌, refl, subst, arith, append-nil, Bool, true, false, Some, None, Option}
+use Rattle.std.proofs.Common.{◌≡◌, ℕ, ℤ, ◌+◌, ◌<◌, List, [], ◌∷◌, ◌++◌, map, filter, length, ap, sym, ◌∙◌, refl, arith, append-nil, Bool, true, false, Some, None, Option}
 use Rattle.std.specs.Prelude.{◌&&◌, ◌||◌, not, is_some, nat_eq, if◌then◌else◌, slice_get}
 use Rattle.std.specs.Str.{bytes_eq}
 use Rattle.std.specs.List.{list_any, AllByRecursion}
@@ -22,10 +22,10 @@ use Rattle.cl_core.specs.declared.event.Entry.{Entry}
 use Rattle.cl_core.specs.declared.event.Entry.TheVariants as entry
 use Rattle.cl_core.specs.declared.waiting.Waiting.{Waiting}
 use Rattle.cl_core.specs.Waiting.{same_id, has_id}
-use Rattle.cl_core.specs.Refusals.{refusal_of, is_open, document_of}
+use Rattle.cl_core.specs.Refusals.{is_open, document_of}
 use Rattle.cl_core.specs.History.{said, received, pending, without, is_query, asks_by, asks_on}
-use Rattle.cl_core.specs.Deciding.{texts_of, core_refusal, entry_of, ended, ended_waiting, left_waiting, how_ended, replies_to_request, replies_of, waiting_for, started_if, started_by}
-use Rattle.cl_core.specs.Steps.{pending_after, left_by}
+use Rattle.cl_core.specs.Deciding.{texts_of, core_refusal, entry_of, ended, ended_waiting, left_waiting, how_ended, replies_to_request, replies_of, waiting_for, started_if}
+use Rattle.cl_core.specs.Steps.{pending_after}
 use Rattle.cl_core.specs.Standing.{Asks, StandsFor, past_of}
 use Rattle.cl_core.proofs.Onto.{onto}
 use Rattle.cl_core.proofs.Accepting.{open_if_accepted}
@@ -82,7 +82,7 @@ among_passed q k [] = sym (and-false (q k))
 among_passed q k (x ∷ xs) = among_if (q x) (q k) k x (filter q xs) xs (λ e. ap q (eqb-true k x e)) (among_passed q k xs)
 
 pub without_passed : (q : ℕ → Bool) (ns : List ℕ) → without_all (filter q ns) ns ≡ filter (λ k. not (q k)) ns
-without_passed q ns = 
+without_passed q ns =
     without_all_filter (filter q ns) ns
     ∙ same_kept (λ k. not (is_among k (filter q ns))) (λ k. not (q k)) ns (λ k e. ap not (among_passed q k ns ∙ rw e (and-true (q k))))
 

@@ -1,6 +1,5 @@
 -- In a session that does each job before it takes the next message, none is pending where a message is received.
-use Rattle.std.proofs.Common.{◌≡◌, ◌⊎◌, ⊎_elim, ℕ, List, [], ◌∷◌, ◌++◌, length, map, Bool, true, false, refl, sym, ap, ◌∙◌, subst}
-use Rattle.std.specs.Prelude.{slice_get, Some}
+use Rattle.std.proofs.Common.{◌≡◌, ⊎_elim, ℕ, List, [], ◌∷◌, map, sym, ap, ◌∙◌, subst}
 use Rattle.cl_query.specs.declared.job.Job.{Job}
 use Rattle.cl_rpc.specs.declared.call.Parsed.{Parsed}
 use Rattle.cl_rpc.specs.declared.out.How.{How}
@@ -15,7 +14,7 @@ use Rattle.cl_core.specs.declared.waiting.Waiting.{Waiting}
 use Rattle.cl_core.specs.History.{pending}
 use Rattle.cl_core.specs.Legal.{IsSettled}
 use Rattle.cl_core.specs.Deciding.{entry_of, replies_of}
-use Rattle.cl_core.specs.Steps.{Takes, Replies, Completes, Stops}
+use Rattle.cl_core.specs.Steps.{Takes, Completes, Stops}
 use Rattle.cl_core.specs.Standing.{past_of, jobs_out, StandsFor}
 use Rattle.cl_core.proofs.Onto.{onto}
 use Rattle.cl_core.proofs.Dues.{new_past}

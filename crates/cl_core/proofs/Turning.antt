@@ -1,9 +1,8 @@
 -- A session that does each job before it takes the next message.
-use Rattle.std.proofs.Common.{◌≡◌, ◌⊎◌, ⊎_elim, ℕ, ℤ, ◌+◌, ◌<◌, ◌≤◌, List, [], ◌∷◌, ◌++◌, length, map, filter, Bool, true, false, not, ◌&&◌, refl, sym, ap, ◌∙◌, subst, arith, append-nil, nat_eq, eq-eqb, get_or}
+use Rattle.std.proofs.Common.{◌≡◌, ⊎_elim, ℕ, ℤ, ◌≤◌, List, [], ◌∷◌, ◌++◌, length, map, Bool, true, false, refl, sym, ap, ◌∙◌, subst, arith, append-nil, eq-eqb}
 use Rattle.std.specs.Prelude.{Contains, Option, Some, None, is_some, if◌then◌else◌}
-use Rattle.std.specs.Str.{bytes_eq}
 use Rattle.std.proofs.lemmas.List.{length-map}
-use Rattle.std.proofs.lemmas.Bool.{MatchBool-at_true, MatchBool-at_false}
+use Rattle.std.proofs.lemmas.Bool.{MatchBool-at_false}
 use Rattle.cl_store.specs.declared.docs.Doc.{Doc}
 use Rattle.cl_store.specs.Docs.{doc_at}
 use Rattle.cl_query.specs.declared.job.Job.{Job}
@@ -24,10 +23,9 @@ use Rattle.cl_core.specs.declared.event.Ending.{Ending}
 use Rattle.cl_core.specs.declared.event.Effect.{Effect}
 use Rattle.cl_core.specs.declared.event.Effect.TheVariants as effect
 use Rattle.cl_core.specs.declared.waiting.Waiting.{Waiting}
-use Rattle.cl_core.specs.Waiting.{same_id}
 use Rattle.cl_core.specs.Refusals.{out_of_memory}
 use Rattle.cl_core.specs.Deciding.{core_refusal, left_waiting, replies_of, started_by, started_if, waiting_for}
-use Rattle.cl_core.specs.Steps.{Takes, Replies, Completes, Stops, StepsOn, Steps, start_jobs, finish, finish_if, finishes, is_nil, is_exit, first_ending, status_of, ending_after, left_by, left_after, pending_after}
+use Rattle.cl_core.specs.Steps.{Takes, Replies, Completes, Stops, Steps, start_jobs, finish, finish_if, finishes, is_nil, is_exit, first_ending, status_of, ending_after, left_by, left_after, pending_after}
 use Rattle.cl_core.specs.Standing.{jobs_out, jobs_of, finish_of, IsIdle, TakesTurn, EndsTurn, EndsSession, Turns}
 
 abbrev pub job_of : Waiting → Job
@@ -150,16 +148,16 @@ takes_turn old new p effects takes idle =
     let only_started : left ≡ started = ap (λ (ws : List Waiting). ws ++ started) (none_left_by old p none) in
     let none_left : is_exit p ≡ true → left ≡ [] = λ e. only_started ∙ exit_starts_none old p e in
     let jobs : jobs_of effects ≡ map job_of started =
-        ap jobs_of takes.effects_are
-        ∙ jobs_after_replies (replies_of old p) (start_jobs started ++ finish (ending_after old p) left)
-        ∙ jobs_started started (finish (ending_after old p) left)
-        ∙ ap (λ (more : List Job). map job_of started ++ more) (no_jobs_of_finish (ending_after old p) (is_nil left))
-        ∙ append-nil (map job_of started) in
+    ap jobs_of takes.effects_are
+    ∙ jobs_after_replies (replies_of old p) (start_jobs started ++ finish (ending_after old p) left)
+    ∙ jobs_started started (finish (ending_after old p) left)
+    ∙ ap (λ (more : List Job). map job_of started ++ more) (no_jobs_of_finish (ending_after old p) (is_nil left))
+    ∙ append-nil (map job_of started) in
     let ends : finish_of effects ≡ (if is_exit p then Some status else None) =
-        ap finish_of takes.effects_are
-        ∙ finish_after_replies (replies_of old p) (start_jobs started ++ finish (ending_after old p) left)
-        ∙ finish_after_jobs started (finish (ending_after old p) left)
-        ∙ finish_for (is_exit p) old.ending status left idle.goes_on none_left in
+    ap finish_of takes.effects_are
+    ∙ finish_after_replies (replies_of old p) (start_jobs started ++ finish (ending_after old p) left)
+    ∙ finish_after_jobs started (finish (ending_after old p) left)
+    ∙ finish_for (is_exit p) old.ending status left idle.goes_on none_left in
     record {
       count = takes.messages;
       jobs = ap (map job_of) (takes.pending ∙ only_started) ∙ sym jobs;

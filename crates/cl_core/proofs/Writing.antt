@@ -1,6 +1,6 @@
 -- What a step's effects write is what the journal writes.
-use Rattle.std.proofs.Common.{◌≡◌, ◌⊎◌, ⊎_elim, ℕ, ℤ, ◌+◌, ◌<◌, List, [], ◌∷◌, ◌++◌, length, map, filter, Bool, true, false, not, refl, sym, ap, ◌∙◌, subst, append_assoc, append-nil, nat_eq, eq-eqb}
-use Rattle.std.specs.Prelude.{Contains, Option, Some, None, slice_get, is_some, if◌then◌else◌}
+use Rattle.std.proofs.Common.{◌≡◌, ⊎_elim, ℕ, ℤ, ◌+◌, List, [], ◌∷◌, ◌++◌, length, map, filter, Bool, true, false, refl, sym, ap, ◌∙◌, subst, append_assoc, append-nil, eq-eqb}
+use Rattle.std.specs.Prelude.{Option, Some, None, slice_get, is_some, if◌then◌else◌}
 use Rattle.std.specs.List.{AllByRecursion}
 use Rattle.std.specs.Str.{bytes_eq}
 use Rattle.cl_store.specs.Docs.{doc_at}
@@ -30,7 +30,7 @@ use Rattle.cl_core.specs.declared.waiting.Waiting.{Waiting}
 use Rattle.cl_core.specs.Waiting.{same_id}
 use Rattle.cl_core.specs.Refusals.{out_of_memory}
 use Rattle.cl_core.specs.History.{said, refusal}
-use Rattle.cl_core.specs.Written.{before, id_of, IsAnswer, IsOut, Tells, Writes}
+use Rattle.cl_core.specs.Written.{before, id_of, IsOut, Tells, Writes}
 use Rattle.cl_core.specs.Deciding.{core_refusal, entry_of, reply_by, code_of, ended, ended_waiting, how_ended, replies_to_request, replies_of, started_by}
 use Rattle.cl_core.specs.Steps.{Takes, Replies, Completes, Stops, start_jobs, finish, finish_if, is_nil, pending_after, ending_after, left_after, first_ending, status_of}
 use Rattle.cl_core.specs.Standing.{past_of, Asks, StandsFor, frames_of}
@@ -109,15 +109,16 @@ ended_tell : (messages : List Parsed) (past here : List Entry) (mark : ℕ) (h :
     → ((b : List Entry) (p : Parsed) → IsOut messages b p h (out.Error (code_of h)))
     → (ws : List Waiting) → AllByRecursion (Asks messages past) ws → AllTell messages here (ended mark h ws)
 ended_tell messages past here mark h is [] all = tt
-ended_tell messages past here mark h is (w ∷ ws) all =
-    ( record {
-        message = refl;
-        marked = refl;
-        given = refl;
-        id_is = sym (ap id_of (said_is messages w.job.message (parsed.Request w.id (call.Symbols w.job.path)) all.0.said_so));
-        out_is = is (before here w.job.message) (said messages w.job.message);
-      }
-    , ended_tell messages past here (mark + 1) h is ws all.1 )
+ended_tell messages past here mark h is (w ∷ ws) all = (
+  record {
+    message = refl;
+    marked = refl;
+    given = refl;
+    id_is = sym (ap id_of (said_is messages w.job.message (parsed.Request w.id (call.Symbols w.job.path)) all.0.said_so));
+    out_is = is (before here w.job.message) (said messages w.job.message);
+  },
+  ended_tell messages past here (mark + 1) h is ws all.1,
+)
 
 -- the requests that a notification ends are some of those that wait
 ended_ask : (messages : List Parsed) (past : List Entry) (core : Core) (c : Call) → AllByRecursion (Asks messages past) core.pending.items → AllByRecursion (Asks messages past) (ended_waiting core c)
@@ -180,9 +181,9 @@ message_writes messages old new p effects bytes next s takes w =
     let left = pending_after old p in
     let ends = ending_after old p in
     let frames : frames_of effects ≡ frames_of (map effect.Reply (replies_of old p)) =
-        ap frames_of takes.effects_are
-        ∙ frames_of_replies (replies_of old p) (start_jobs (started_by old p) ++ finish ends left)
-        (no_frames_of_jobs (started_by old p) (finish ends left) (no_frames_of_finish ends (is_nil left))) in
+    ap frames_of takes.effects_are
+    ∙ frames_of_replies (replies_of old p) (start_jobs (started_by old p) ++ finish ends left)
+    (no_frames_of_jobs (started_by old p) (finish ends left) (no_frames_of_finish ends (is_nil left))) in
     subst (λ (past : List Entry). Writes messages past (bytes ++ frames_of effects)) (sym (new_past old new p effects takes))
     (subst (λ (more : List ℕ). Writes messages (onto (map entry_of (replies_of old p)) (entry.In old.messages ∷ past_of old)) (bytes ++ more)) (sym frames)
     (writes_replies messages (entry.In old.messages ∷ past_of old) bytes (replies_of old p) w (replies_tell messages old p s (said_is messages old.messages p next))))
@@ -227,10 +228,10 @@ reply_writes messages old new job mark h o effects bytes s is r w =
     let reply = reply_by job.message mark h (Some r.waiting.id) o in
     let asks : Asks messages (past_of old) r.waiting = one_of (Asks messages (past_of old)) old.pending.items r.waiting s.asks r.waits in
     let tells : Tells messages (past_of old) job.message mark h reply =
-        subst (λ (j : Job). Tells messages (past_of old) j.message mark h (reply_by j.message mark h (Some r.waiting.id) o)) r.same_job
-        (tells_job messages (past_of old) r.waiting mark h o asks (subst (λ (j : Job). IsJobsOut j h o) (sym r.same_job) is)) in
+    subst (λ (j : Job). Tells messages (past_of old) j.message mark h (reply_by j.message mark h (Some r.waiting.id) o)) r.same_job
+    (tells_job messages (past_of old) r.waiting mark h o asks (subst (λ (j : Job). IsJobsOut j h o) (sym r.same_job) is)) in
     let frames : frames_of effects ≡ reply_frame reply =
-        ap frames_of r.effects_are ∙ ap (λ (more : List ℕ). reply_frame reply ++ more) (no_frames_of_finish old.ending (is_nil (left_after old job.message))) ∙ append-nil (reply_frame reply) in
+    ap frames_of r.effects_are ∙ ap (λ (more : List ℕ). reply_frame reply ++ more) (no_frames_of_finish old.ending (is_nil (left_after old job.message))) ∙ append-nil (reply_frame reply) in
     subst (λ (past : List Entry). Writes messages past (bytes ++ frames_of effects)) (sym (past_of_reply old new job mark h o effects r))
     (bytes, reply, w, tells, ap (λ (more : List ℕ). bytes ++ more) frames)
 

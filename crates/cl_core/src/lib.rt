@@ -7,6 +7,7 @@ mod edits;
 mod ending;
 mod event;
 mod job_end;
+mod laws;
 mod note;
 mod refusal;
 mod replies;
@@ -17,3 +18,4 @@ mod waiting;
 
 pub use core_state::Core;
 pub use event::{Effect, Ending, Entry, Event};
+pub use laws::one_reply;

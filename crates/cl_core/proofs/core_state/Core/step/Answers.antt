@@ -9,7 +9,7 @@ use Rattle.cl_core.proofs.core_state.Core.step.Goals as goal
 pub returns-in_err-effects-clause-kept : goal.returns-in_err-effects-clause-kept
 returns-in_err-effects-clause-kept c =
     let kept : (messages : List Parsed) → StandsFor messages c.args.self.now → StandsFor messages c.advance.new.self =
-        λ messages stands. as_before_stands messages c.args.self.now c.advance.new.self stands c.in_err-effects.ensures.err in
+    λ messages stands. as_before_stands messages c.args.self.now c.advance.new.self stands c.in_err-effects.ensures.err in
     on_err c.from_residual.result _ kept
 
 pub returns-clause-stands : goal.returns-clause-stands
