@@ -79,3 +79,8 @@ IsEndOf job _ = ⊥
 abbrev pub frame_of : Effect → List ℕ
 frame_of (effect.Reply r) = reply_frame r
 frame_of _ = []
+
+-- how a session goes on that ends with this status, if it ends
+abbrev pub turn_of : Option ℕ → Turn
+turn_of (Some status) = Ends status
+turn_of None = GoesOn

@@ -4,9 +4,9 @@ ghost use Rattle.cl_base.specs.Faults.{HasCause};
 ghost use Rattle.cl_rpc.specs.declared.call.Parsed.{Parsed};
 ghost use Rattle.cl_core.specs.Standing.{finish_of, frames_of, jobs_of};
 ghost use Rattle.clsd.specs.First.{first_of};
-ghost use Rattle.clsd.specs.Serving.{frame_of, EndsWork, IsEndOf, Keeps, Turns, Works};
+ghost use Rattle.clsd.specs.Serving.{frame_of, turn_of, EndsWork, IsEndOf, Keeps, Turns, Works};
 
-use cl_base::{Duplicate, Mem};
+use cl_base::{Duplicate, Mem, Memory};
 use cl_core::{Core, Effect, Event};
 use cl_frames::{Sink, Written, write_frame};
 use cl_query::{Job, JobAnswer, run_job};
@@ -35,16 +35,29 @@ pub fn take_message<K: Sink>(
         → Keeps messages core.old held → K.held sink.old ≡ Some held → Turns messages core.old parsed core.new (K.held sink.new) result }
     ensures cause { HasCause (K.faults sink.old) (K.faults sink.new) (result ≡ Ok Turn.SinkFailed) }
 {
-    let effects = core.step(alloc, Event::Message(parsed))?;
-    if !write_replies(alloc, sink, effects.as_slice())? {
-        return Ok(Turn::SinkFailed);
+    let effects = match core.step(alloc, Event::Message(parsed)) {
+        Ok(effects) => effects,
+        Err(Memory) => return Err(Memory),
+    };
+    match write_replies(alloc, sink, effects.as_slice()) {
+        Ok(true) => {}
+        Ok(false) => return Ok(Turn::SinkFailed),
+        Err(Memory) => return Err(Memory),
     }
-    match job_of(alloc, effects.as_slice())? {
-        Some(job) => do_job(alloc, core, sink, job),
-        None => match finish_of(effects.as_slice()) {
-            Some(status) => Ok(Turn::Ends(status)),
-            None => Ok(Turn::GoesOn),
-        },
+    match job_of(alloc, effects.as_slice()) {
+        Ok(Some(job)) => do_job(alloc, core, sink, job),
+        Ok(None) => Ok(turn_of(finish_of(effects.as_slice()))),
+        Err(Memory) => Err(Memory),
+    }
+}
+
+/// How a session goes on that ends with this status, if it ends.
+fn turn_of(status: Option<u8>) -> Turn
+    ensures { result ≡ turn_of status }
+{
+    match status {
+        Some(status) => Turn::Ends(status),
+        None => Turn::GoesOn,
     }
 }
 
@@ -55,11 +68,15 @@ fn do_job<K: Sink>(alloc: Global, core: &mut Core, sink: &mut K, job: Job) -> Me
     ensures cause { HasCause (K.faults sink.old) (K.faults sink.new) (result ≡ Ok Turn.SinkFailed) }
 {
     let event = work(alloc, job);
-    let effects = core.step(alloc, event)?;
-    if !write_replies(alloc, sink, effects.as_slice())? {
-        return Ok(Turn::SinkFailed);
+    let effects = match core.step(alloc, event) {
+        Ok(effects) => effects,
+        Err(Memory) => return Err(Memory),
+    };
+    match write_replies(alloc, sink, effects.as_slice()) {
+        Ok(true) => Ok(Turn::GoesOn),
+        Ok(false) => Ok(Turn::SinkFailed),
+        Err(Memory) => Err(Memory),
     }
-    Ok(Turn::GoesOn)
 }
 
 /// The event of a job's end.
