@@ -11,6 +11,8 @@ mod memory_headers;
 mod name;
 mod path;
 mod place;
+#[cfg(test)]
+mod tests;
 mod text;
 
 pub use answer::{Answer, Symbol};

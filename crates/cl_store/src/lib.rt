@@ -2,5 +2,7 @@
 #![tactic(auto)]
 
 mod docs;
+#[cfg(test)]
+mod tests;
 
 pub use docs::{Changed, Closed, Doc, Docs, Opened};
