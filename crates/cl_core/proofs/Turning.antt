@@ -1,6 +1,6 @@
 -- A session that does each job before it takes the next message.
 use Rattle.std.proofs.Common.{◌≡◌, ⊎_elim, ℕ, ℤ, ◌≤◌, List, [], ◌∷◌, ◌++◌, length, map, Bool, true, false, refl, sym, ap, ◌∙◌, subst, arith, append-nil, eq-eqb}
-use Rattle.std.specs.Prelude.{Contains, Option, Some, None, is_some, if◌then◌else◌}
+use Rattle.std.specs.Prelude.{Contains, Option, Some, None, is_some, if◌then◌else◌, ◌&&◌, ◌||◌}
 use Rattle.std.proofs.lemmas.List.{length-map}
 use Rattle.std.proofs.lemmas.Bool.{MatchBool-at_false}
 use Rattle.cl_store.specs.declared.docs.Doc.{Doc}
@@ -25,7 +25,8 @@ use Rattle.cl_core.specs.declared.event.Effect.TheVariants as effect
 use Rattle.cl_core.specs.declared.waiting.Waiting.{Waiting}
 use Rattle.cl_core.specs.Refusals.{out_of_memory}
 use Rattle.cl_core.specs.Deciding.{core_refusal, left_waiting, replies_of, started_by, started_if, waiting_for}
-use Rattle.cl_core.specs.Steps.{Takes, Replies, Completes, Stops, Steps, start_jobs, finish, finish_if, finishes, is_nil, is_exit, first_ending, status_of, ending_after, left_by, left_after, pending_after}
+use Rattle.cl_core.specs.Steps.{Takes, Replies, Completes, Stops, Steps, start_jobs, finish, finish_if, finishes, is_nil, is_accepted, is_exit, first_ending, status_of, ending_after, left_by, left_after, pending_after}
+use Rattle.cl_core.specs.History.{shuts_down}
 use Rattle.cl_core.specs.Standing.{jobs_out, jobs_of, finish_of, IsIdle, TakesTurn, EndsTurn, EndsSession, Turns}
 
 abbrev pub job_of : Waiting → Job
@@ -123,6 +124,12 @@ exit_starts_none core (parsed.Notification c) e = refl
 exit_starts_none core (parsed.Refused i code) e = refl
 exit_starts_none core parsed.Ignored e = refl
 
+exit_keeps : (p : Parsed) (accepted before : Bool) → is_exit p ≡ true → ((shuts_down p && accepted) || before) ≡ before
+exit_keeps (parsed.Request i c) accepted before e = absurd (cc)
+exit_keeps (parsed.Notification c) accepted before e = refl
+exit_keeps (parsed.Refused i code) accepted before e = refl
+exit_keeps parsed.Ignored accepted before e = refl
+
 -- ---- the end, by whether the message is the `exit`
 
 ending_for : (b : Bool) (o : Option ℕ) (status : ℕ) → o ≡ None → (if b then first_ending o status else o) ≡ (if b then Some status else None)
@@ -166,6 +173,7 @@ takes_turn old new p effects takes idle =
       ending = takes.ending ∙ ending_for (is_exit p) old.ending status idle.goes_on ∙ sym ends;
       over = takes.finished ∙ over_for (is_exit p) old.ending status left idle.goes_on none_left ∙ sym (ap is_some ends);
       none_after_exit = λ e. jobs ∙ ap (map job_of) (exit_starts_none old p e);
+      same_shut_down = λ e. takes.shut_down ∙ exit_keeps p (is_accepted old p) old.shut_down e;
     }
 
 -- ---- the one job that is out ends

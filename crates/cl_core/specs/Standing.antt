@@ -97,6 +97,7 @@ pub record TakesTurn (old : Core) (p : Parsed) (new : Core) (effects : List Effe
   pub ending : new.ending ≡ finish_of effects
   pub over : new.finished ≡ is_some (finish_of effects)
   pub none_after_exit : is_exit p ≡ true → jobs_of effects ≡ []
+  pub same_shut_down : is_exit p ≡ true → new.shut_down ≡ old.shut_down
 
 -- after its job none is out
 pub record EndsTurn (old new : Core) (effects : List Effect) : Type 0 where

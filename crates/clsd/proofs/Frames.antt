@@ -27,9 +27,10 @@ frame_here es i e lt is = ap frames_of (from_here es i e lt is) ∙ one_more e (
 -- a further piece was written
 pub written_on : (a b c : Option (List ℕ)) (all front piece rest more : List ℕ) → all ≡ front ++ rest → rest ≡ piece ++ more → b ≡ append_known a front → c ≡ append_known b piece
     → (all ≡ (front ++ piece) ++ more) × (c ≡ append_known a (front ++ piece))
-written_on a b c all front piece rest more whole parts before now =
-    (whole ∙ ap (λ (w : List ℕ). front ++ w) parts ∙ sym (append_assoc front piece more),
-        now ∙ ap (λ (w : Option (List ℕ)). append_known w piece) before ∙ append_known_append a front piece)
+written_on a b c all front piece rest more whole parts before now = (
+  whole ∙ ap (λ (w : List ℕ). front ++ w) parts ∙ sym (append_assoc front piece more),
+  now ∙ ap (λ (w : Option (List ℕ)). append_known w piece) before ∙ append_known_append a front piece,
+)
 
 -- and of it only the first n bytes
 pub written_part : (a b c : Option (List ℕ)) (all front piece rest more : List ℕ) (n : ℕ) → all ≡ front ++ rest → rest ≡ piece ++ more → b ≡ append_known a front

@@ -25,25 +25,31 @@ pub record Stands (messages : List Parsed) (core : Core) (held : List ℕ) : Typ
 pub step_failed : (messages : List Parsed) (old new : Core) (held : List ℕ) (sink : Option (List ℕ))
     → IsSettled messages (past_of old) → Writes messages (past_of old) held → StandsFor messages new → journal_of new ≡ journal_of old → sink ≡ Some held
     → Holds sink (IsCutOff messages new)
-step_failed messages old new held sink settled writes stands same told =
-    (held, told, record {
-        stands = stands;
-        unwritten = [];
-        writes = rw (append-nil held) (subst (λ (j : List Entry). Writes messages (reverse j) held) (sym same) writes);
-        settled = subst (λ (j : List Entry). IsSettled messages (reverse j)) (sym same) settled;
-      })
+step_failed messages old new held sink settled writes stands same told = (
+  held,
+  told,
+  record {
+    stands = stands;
+    unwritten = [];
+    writes = rw (append-nil held) (subst (λ (j : List Entry). Writes messages (reverse j) held) (sym same) writes);
+    settled = subst (λ (j : List Entry). IsSettled messages (reverse j)) (sym same) settled;
+  },
+)
 
 -- a front of the replies was written
 pub part_written : (messages : List Parsed) (new : Core) (held all front rest : List ℕ) (before sink : Option (List ℕ))
     → Stands messages new (held ++ all) → before ≡ Some held → all ≡ front ++ rest → sink ≡ append_known before front
     → Holds sink (IsCutOff messages new)
-part_written messages new held all front rest before sink now told parts wrote =
-    (held ++ front, wrote ∙ ap (λ (w : Option (List ℕ)). append_known w front) told, record {
-        stands = now.stands;
-        unwritten = rest;
-        writes = subst (Writes messages (past_of new)) (ap (λ (w : List ℕ). held ++ w) parts ∙ sym (append_assoc held front rest)) now.writes;
-        settled = now.settled;
-      })
+part_written messages new held all front rest before sink now told parts wrote = (
+  held ++ front,
+  wrote ∙ ap (λ (w : Option (List ℕ)). append_known w front) told,
+  record {
+    stands = now.stands;
+    unwritten = rest;
+    writes = subst (Writes messages (past_of new)) (ap (λ (w : List ℕ). held ++ w) parts ∙ sym (append_assoc held front rest)) now.writes;
+    settled = now.settled;
+  },
+)
 
 -- all replies were written
 pub all_written : (held all : List ℕ) (before sink : Option (List ℕ)) → before ≡ Some held → sink ≡ append_known before all → sink ≡ Some (held ++ all)

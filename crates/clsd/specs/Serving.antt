@@ -1,5 +1,5 @@
 -- What a session that is served keeps from message to message. `held` is what its sink holds.
-use Rattle.std.specs.Prelude.{◌≡◌, ℕ, ◌+◌, ◌≤◌, List, [], ◌∷◌, ◌++◌, Bool, true, false, if◌then◌else◌, Option, Some, None, Result, Ok, Err}
+use Rattle.std.specs.Prelude.{◌≡◌, ◌⊎◌, ℕ, ◌+◌, ◌≤◌, List, [], ◌∷◌, ◌++◌, Bool, true, false, if◌then◌else◌, Option, Some, None, Result, Ok, Err}
 use Rattle.cl_base.specs.declared.memory.Memory.{Memory}
 use Rattle.cl_query.specs.declared.job.Job.{Job}
 use Rattle.cl_rpc.specs.declared.call.Parsed.{Parsed}
@@ -12,8 +12,10 @@ use Rattle.cl_core.specs.declared.event.Event.TheVariants as event
 use Rattle.cl_core.specs.History.{is_shut_down}
 use Rattle.cl_core.specs.Legal.{IsSettled}
 use Rattle.cl_core.specs.Written.{Writes}
-use Rattle.cl_core.specs.Steps.{is_exit}
+use Rattle.cl_core.specs.declared.event.Ending.{Ending}
+use Rattle.cl_core.specs.Steps.{is_exit, status_of}
 use Rattle.cl_core.specs.Standing.{IsIdle, StandsFor, jobs_out, past_of}
+use Rattle.clsd.specs.declared.session.Ended.{Ended}
 use Rattle.clsd.specs.declared.turn.Turn.{Turn}
 use Rattle.clsd.specs.declared.turn.Turn.TheVariants.{GoesOn, Ends, SinkFailed}
 
@@ -58,9 +60,16 @@ Holds held P = (now : List ℕ) × (held ≡ Some now) × P now
 abbrev pub Turns : List Parsed → Core → Parsed → Core → Option (List ℕ) → Result Turn Memory → Type 0
 Turns messages old p new held (Ok GoesOn) = Holds held (Keeps messages new) × (new.messages ≡ old.messages + 1) × (is_exit p ≡ false)
 Turns messages old p new held (Ok (Ends status)) =
-    Holds held (IsOver messages new) × (new.messages ≡ old.messages + 1) × (is_exit p ≡ true) × (status ≡ (if is_shut_down messages (past_of old) then 0 else 1))
+    Holds held (IsOver messages new) × (new.messages ≡ old.messages + 1) × (is_exit p ≡ true) × (status ≡ (if is_shut_down messages (past_of new) then 0 else 1))
 Turns messages old p new held (Ok SinkFailed) = Holds held (IsCutOff messages new) × (new.messages ≤ old.messages + 1)
 Turns messages old p new held (Err memory) = Holds held (IsCutOff messages new) × (new.messages ≤ old.messages + 1)
+
+-- a turn of an idle session leaves it idle, or ends it with 0 or 1
+abbrev pub LeavesIdle : Core → Result Turn Memory → Type 0
+LeavesIdle new (Ok GoesOn) = IsIdle new
+LeavesIdle new (Ok (Ends status)) = (status ≡ 0) ⊎ (status ≡ 1)
+LeavesIdle new (Ok SinkFailed) = Unit {0}
+LeavesIdle new (Err memory) = Unit {0}
 
 -- what the end of a job leaves
 abbrev pub EndsWork : List Parsed → Core → Core → Option (List ℕ) → Result Turn Memory → Type 0
@@ -84,3 +93,13 @@ frame_of _ = []
 abbrev pub turn_of : Option ℕ → Turn
 turn_of (Some status) = Ends status
 turn_of None = GoesOn
+
+-- what the end of the input leaves
+abbrev pub EndsInput : List Parsed → Core → Ending → Core → List ℕ → Result ℕ Memory → Type 0
+EndsInput messages old how new held (Ok status) = (status ≡ status_of how) × IsOver messages new held × (new.messages ≡ old.messages)
+EndsInput messages old how new held (Err memory) = IsCutOff messages new held × (new.messages ≡ old.messages)
+
+-- the end with this status and offset, or for want of memory
+abbrev pub ended_with : Result ℕ Memory → ℕ → Ended
+ended_with (Ok status) at = record { status = status; at = at }
+ended_with (Err memory) at = record { status = 7; at = 0 }

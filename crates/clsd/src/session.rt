@@ -1,3 +1,12 @@
+ghost use Rattle.std.specs.Prelude.{◌≡◌, ◌≢◌, ℕ, [], List, Some, None, Ok, IfOk, slice_get};
+ghost use Rattle.cl_base.specs.Faults.{HasCause};
+ghost use Rattle.cl_rpc.specs.declared.call.Parsed.{Parsed};
+ghost use Rattle.cl_rpc.specs.Messages.{message_in};
+ghost use Rattle.cl_core.specs.Standing.{IsIdle, StandsFor, journal_of};
+ghost use Rattle.cl_core.specs.Steps.{status_of};
+ghost use Rattle.clsd.specs.Serving.{ended_with, EndsInput, Keeps, LeavesIdle, Turns};
+ghost use Rattle.clsd.specs.Sessions.{Session};
+
 use crate::outcome::{NO_MEMORY, SINK_FAILED};
 use crate::turn::{Turn, finish_of, take_message};
 use cl_base::{Mem, Memory, Text};
@@ -23,52 +32,80 @@ pub fn run<S: Source, K: Sink>(
     core: &mut Core,
     source: &mut S,
     sink: &mut K,
-) -> Ended {
-    for _count in 0..MOST_FRAMES {
-        let frame = frames.read_frame(alloc, source);
-        match frame {
+) -> Ended
+    requires taken { frames.old.taken ≡ 0 }
+    requires last { frames.old.last ≡ None }
+    requires stands { (messages : List Parsed) → StandsFor messages core.old }
+    requires journal { journal_of core.old ≡ [] }
+    requires idle { IsIdle core.old }
+    ensures session { (bytes : List ℕ) → S.left source.old ≡ Some bytes → K.held sink.old ≡ Some []
+        → Session bytes (S.left source.new) (K.held sink.new) (journal_of core.new) result.status result.at }
+    ensures source { HasCause (S.faults source.old) (S.faults source.new) (result.status ≡ 4) }
+    ensures sink { HasCause (K.faults sink.old) (K.faults sink.new) (result.status ≡ 5) }
+    ensures words { result.status ≢ 6 }
+{
+    for count in 0..MOST_FRAMES {
+        let _ = count;
+        match frames.read_frame(alloc, source) {
             Frame::Body(body) => match take_body(alloc, core, sink, &body) {
                 Ok(Turn::GoesOn) => {}
-                Ok(Turn::Ends(status)) => return ended_with(status),
-                Ok(Turn::SinkFailed) => return ended_with(SINK_FAILED),
-                Err(Memory) => return ended_with(NO_MEMORY),
+                Ok(Turn::Ends(status)) => return Ended { status, at: 0 },
+                Ok(Turn::SinkFailed) => return Ended {
+                    status: SINK_FAILED,
+                    at: 0,
+                },
+                Err(Memory) => return Ended {
+                    status: NO_MEMORY,
+                    at: 0,
+                },
             },
-            Frame::End => return ended_with(end(alloc, core, Ending::Edge)),
-            Frame::Bad { offset } => return bad(end(alloc, core, Ending::Bad), offset),
-            Frame::Failed => return ended_with(end(alloc, core, Ending::Failed)),
-            Frame::Long => return ended_with(end(alloc, core, Ending::Long)),
-            Frame::Memory => return ended_with(end(alloc, core, Ending::Memory)),
+            Frame::End => return ended_with(end(alloc, core, Ending::Edge), 0),
+            Frame::Bad { offset } => return ended_with(end(alloc, core, Ending::Bad), offset),
+            Frame::Failed => return ended_with(end(alloc, core, Ending::Failed), 0),
+            Frame::Long => return ended_with(end(alloc, core, Ending::Long), 0),
+            Frame::Memory => return ended_with(end(alloc, core, Ending::Memory), 0),
         }
     }
-    ended_with(NO_MEMORY)
+    unreachable!()
 }
 
 /// Takes the body of a frame.
-fn take_body<K: Sink>(alloc: Global, core: &mut Core, sink: &mut K, body: &Text) -> Mem<Turn> {
-    let parsed = message_of(alloc, body.bytes())?;
-    take_message(alloc, core, sink, parsed)
+fn take_body<K: Sink>(alloc: Global, core: &mut Core, sink: &mut K, body: &Text) -> Mem<Turn>
+    ensures turn { (messages : List Parsed) (held : List ℕ) → slice_get messages core.old.messages ≡ Some (message_in body.now)
+        → Keeps messages core.old held → K.held sink.old ≡ Some held
+        → Turns messages core.old (message_in body.now) core.new (K.held sink.new) result }
+    ensures idle { IsIdle core.old → LeavesIdle core.new result }
+    ensures cause { HasCause (K.faults sink.old) (K.faults sink.new) (result ≡ Ok Turn.SinkFailed) }
+{
+    match message_of(alloc, body.bytes()) {
+        Ok(parsed) => take_message(alloc, core, sink, parsed),
+        Err(Memory) => Err(Memory),
+    }
 }
 
 /// Ends the session where the input ended, and tells the status.
-fn end(alloc: Global, core: &mut Core, ending: Ending) -> u8 {
+fn end(alloc: Global, core: &mut Core, ending: Ending) -> Mem<u8>
+    ensures turn { (messages : List Parsed) (held : List ℕ) → Keeps messages core.old held → EndsInput messages core.old ending core.new held result }
+    ensures status { IsIdle core.old → IfOk result (λ status. status ≡ status_of ending) }
+{
     match core.step(alloc, Event::End(ending)) {
         Ok(effects) => match finish_of(effects.as_slice()) {
-            Some(status) => status,
-            None => NO_MEMORY,
+            Some(status) => Ok(status),
+            None => Err(Memory),
         },
-        Err(Memory) => NO_MEMORY,
+        Err(Memory) => Err(Memory),
     }
 }
 
-/// The end with this status.
-fn ended_with(status: u8) -> Ended {
-    Ended { status, at: 0 }
-}
-
-/// The end at a bad frame of this offset, or for want of memory.
-fn bad(status: u8, offset: u64) -> Ended {
-    if status == NO_MEMORY {
-        return ended_with(status);
+/// The end with this status and offset, or for want of memory.
+fn ended_with(status: Mem<u8>, at: u64) -> Ended
+    ensures { result ≡ ended_with status at }
+{
+    match status {
+        Ok(status) => Ended { status, at },
+        Err(Memory) => Ended {
+            status: NO_MEMORY,
+            at: 0,
+        },
     }
-    Ended { status, at: offset }
 }

@@ -1,10 +1,10 @@
-ghost use Rattle.std.specs.Prelude.{◌≡◌, ◌++◌, ℕ, List, Option, Some, Ok, IfOk, IsTrue, false, slice_get, take};
+ghost use Rattle.std.specs.Prelude.{◌≡◌, ◌++◌, [], ◌∷◌, ℕ, List, Option, Some, None, Ok, IfOk, IsTrue, false, slice_get, take};
 ghost use Rattle.std.specs.Io.KnownBytes.{append_known};
 ghost use Rattle.cl_base.specs.Faults.{HasCause};
 ghost use Rattle.cl_rpc.specs.declared.call.Parsed.{Parsed};
-ghost use Rattle.cl_core.specs.Standing.{finish_of, frames_of, jobs_of};
+ghost use Rattle.cl_core.specs.Standing.{IsIdle, finish_of, frames_of, jobs_of, jobs_out};
 ghost use Rattle.clsd.specs.First.{first_of};
-ghost use Rattle.clsd.specs.Serving.{frame_of, turn_of, EndsWork, IsEndOf, Keeps, Turns, Works};
+ghost use Rattle.clsd.specs.Serving.{frame_of, turn_of, EndsWork, IsEndOf, Keeps, LeavesIdle, Turns, Works};
 
 use cl_base::{Duplicate, Mem, Memory};
 use cl_core::{Core, Effect, Event};
@@ -33,6 +33,7 @@ pub fn take_message<K: Sink>(
 ) -> Mem<Turn>
     ensures turn { (messages : List Parsed) (held : List ℕ) → slice_get messages core.old.messages ≡ Some parsed
         → Keeps messages core.old held → K.held sink.old ≡ Some held → Turns messages core.old parsed core.new (K.held sink.new) result }
+    ensures idle { IsIdle core.old → LeavesIdle core.new result }
     ensures cause { HasCause (K.faults sink.old) (K.faults sink.new) (result ≡ Ok Turn.SinkFailed) }
 {
     let effects = match core.step(alloc, Event::Message(parsed)) {
@@ -65,6 +66,7 @@ fn turn_of(status: Option<u8>) -> Turn
 fn do_job<K: Sink>(alloc: Global, core: &mut Core, sink: &mut K, job: Job) -> Mem<Turn>
     ensures turn { (messages : List Parsed) (held : List ℕ) → Works messages core.old job held → K.held sink.old ≡ Some held
         → EndsWork messages core.old core.new (K.held sink.new) result }
+    ensures idle { jobs_out core.old ≡ job ∷ [] → core.old.ending ≡ None → core.old.finished ≡ false → LeavesIdle core.new result }
     ensures cause { HasCause (K.faults sink.old) (K.faults sink.new) (result ≡ Ok Turn.SinkFailed) }
 {
     let event = work(alloc, job);

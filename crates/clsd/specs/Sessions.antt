@@ -1,0 +1,92 @@
+-- What a whole session is: what it took, what it answered, and how it ended.
+use Rattle.std.specs.Prelude.{◌≡◌, ℕ, ◌^◌, ◌≤◌, List, [], ◌∷◌, ◌++◌, length, map, reverse, Bool, true, false, if◌then◌else◌, Option, Some, IsTrue}
+use Rattle.cl_frames.specs.Sessions.{SplitsInto, edge, bad, long, after_last}
+use Rattle.cl_frames.specs.Sessions as frames
+use Rattle.cl_rpc.specs.declared.call.Parsed.{Parsed}
+use Rattle.cl_rpc.specs.Messages.{message_in}
+use Rattle.cl_core.specs.declared.event.Entry.{Entry}
+use Rattle.cl_core.specs.History.{is_shut_down, pending, received}
+use Rattle.cl_core.specs.Legal.{IsLegal, IsSettled}
+use Rattle.cl_core.specs.Written.{Writes}
+use Rattle.cl_core.specs.Steps.{is_exit}
+
+-- the body is that of an `exit`, after which nothing is read
+abbrev pub is_last : List ℕ → Bool
+is_last body = is_exit (message_in body)
+
+-- what bodies say
+abbrev pub messages_in : List (List ℕ) → List Parsed
+messages_in bodies = map message_in bodies
+
+-- how a session ended: after an `exit`; at the end of the input, at a frame's edge; at bytes that are no frame; with
+-- more bytes than a session may have; by a fault of the source; by one of the sink; for want of memory
+pub data Close : Type 0 where
+  at_exit : Close
+  at_edge : Close
+  at_bad : Close
+  at_long : Close
+  at_source : Close
+  at_sink : Close
+  at_memory : Close
+
+-- it wasn't cut off by the sink or for want of memory
+abbrev pub is_whole : Close → Bool
+is_whole at_sink = false
+is_whole at_memory = false
+is_whole _ = true
+
+-- no body was the last
+abbrev pub NoneLast : frames.Ending → Type 0
+NoneLast (after_last rest) = ⊥
+NoneLast _ = Unit {0}
+
+-- the status of a session that ended so, and the offset that it tells; `ends` is how the bytes that were taken end
+abbrev pub StatusIs : Close → (shut_down : Bool) → frames.Ending → (status at : ℕ) → Type 0
+StatusIs at_exit shut_down ends status at = (status ≡ (if shut_down then 0 else 1)) × (at ≡ 0) × (ends ≡ after_last [])
+StatusIs at_edge shut_down ends status at = (status ≡ 2) × (at ≡ 0) × (ends ≡ edge)
+StatusIs at_bad shut_down ends status at = (status ≡ 3) × NoneLast ends
+StatusIs at_long shut_down ends status at = (status ≡ 8) × (at ≡ 0) × (ends ≡ long)
+StatusIs at_source shut_down ends status at = (status ≡ 4) × (at ≡ 0) × NoneLast ends
+StatusIs at_sink shut_down ends status at = (status ≡ 5) × (at ≡ 0)
+StatusIs at_memory shut_down ends status at = (status ≡ 7) × (at ≡ 0)
+
+-- what is left unread: what stands behind the `exit`; nothing at the end of the input; and bytes that are no frame are
+-- so among all of the source's
+abbrev pub LeavesUnread : Close → (bytes taken rest : List ℕ) → List (List ℕ) → ℕ → Type 0
+LeavesUnread at_exit bytes taken rest bodies at = SplitsInto is_last 0 bytes bodies (after_last rest)
+LeavesUnread at_edge bytes taken rest bodies at = rest ≡ []
+LeavesUnread at_bad bytes taken rest bodies at = SplitsInto is_last 0 bytes bodies (bad at)
+LeavesUnread at_long bytes taken rest bodies at = length taken ≡ 2 ^ 40
+LeavesUnread _ bytes taken rest bodies at = Unit {0}
+
+-- the messages of the journal are the first ones of the bodies that were taken, and all of them where the session was whole
+pub record Takes (close : Close) (taken : List ℕ) (bodies : List (List ℕ)) (ends : frames.Ending) (past : List Entry) : Type 0 where
+  pub framed : SplitsInto is_last 0 taken bodies ends
+  pub first : received past ≤ length bodies
+  pub all : IsTrue (is_whole close) → received past ≡ length bodies
+
+-- the sink holds what the journal writes, or a front of it where the session was cut off
+pub record Writing (close : Close) (messages : List Parsed) (past : List Entry) (held : Option (List ℕ)) : Type 0 where
+  pub now : List ℕ
+  pub unwritten : List ℕ
+  pub held_is : held ≡ Some now
+  pub writes : Writes messages past (now ++ unwritten)
+  pub all : IsTrue (is_whole close) → unwritten ≡ []
+
+-- a session over these bytes of its source, which left `left` of them, and wrote to a sink that was empty and now holds
+-- `held`: its journal, its status `code`, and the offset that it tells
+pub record Session (bytes : List ℕ) (left held : Option (List ℕ)) (journal : List Entry) (code offset : ℕ) : Type 0 where
+  pub taken : List ℕ
+  pub rest : List ℕ
+  pub parts : bytes ≡ taken ++ rest
+  pub left_is : left ≡ Some rest
+  pub bodies : List (List ℕ)
+  pub ends : frames.Ending
+  pub close : Close
+  pub messages : Takes close taken bodies ends (reverse journal)
+  pub legal : IsLegal (messages_in bodies) (reverse journal)
+  pub written : Writing close (messages_in bodies) (reverse journal) held
+  pub status : StatusIs close (is_shut_down (messages_in bodies) (reverse journal)) ends code offset
+  pub whole : IsTrue (is_whole close) → pending (messages_in bodies) (reverse journal) ≡ []
+  pub settled : IsSettled (messages_in bodies) (reverse journal)
+  pub unread : LeavesUnread close bytes taken rest bodies offset
