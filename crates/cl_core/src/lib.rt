@@ -7,15 +7,15 @@ mod edits;
 mod ending;
 mod event;
 mod job_end;
-mod laws;
 mod note;
 mod refusal;
 mod replies;
 mod start;
 mod step;
 mod take;
+#[cfg(test)]
+mod tests;
 mod waiting;
 
 pub use core_state::Core;
 pub use event::{Effect, Ending, Entry, Event};
-pub use laws::one_reply;
