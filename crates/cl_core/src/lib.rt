@@ -7,6 +7,7 @@ mod edits;
 mod ending;
 mod event;
 mod job_end;
+mod laws;
 mod note;
 mod refusal;
 mod replies;
@@ -19,3 +20,4 @@ mod waiting;
 
 pub use core_state::Core;
 pub use event::{Effect, Ending, Entry, Event};
+pub use laws::one_reply;
