@@ -357,3 +357,14 @@ goes_turn bytes at now left0 held0 left held old new text g room read turn is tu
 
 pub idle_turn : (new : Core) (turn : Turn) → turn ≡ GoesOn → LeavesIdle new (Ok turn) → IsIdle new
 idle_turn new turn is idle = subst (λ (t : Turn). LeavesIdle new (Ok t)) is idle
+
+-- a session for which memory was wanting at its start
+pub never_began : (bytes : List ℕ) (left held : Option (List ℕ)) (core : Core) → left ≡ Some bytes → held ≡ Some [] → ((messages : List Parsed) → StandsFor messages core) → journal_of core ≡ [] → IsIdle core
+    → Session bytes left held (journal_of core) 7 0
+unfolding starts
+never_began bytes left held core left_is held_is stands none idle =
+    let g = starts bytes left held core 0 refl left_is held_is stands none idle in
+    let count : core.messages ≡ 0 = g.count in
+    let keeps = g.keeps [] in
+    sealed bytes [] bytes left held [] edge at_memory core [] [] 7 0 refl left_is (front_end is_last [] [] [] edge (front_nil is_last) refl) keeps.stands
+    (omega arith) (λ e. absurd (false_is e)) held_is keeps.writes (λ e. refl) keeps.settled (λ e. absurd (false_is e)) (refl, refl) tt

@@ -1,3 +1,8 @@
+ghost use Rattle.std.specs.Prelude.{◌≡◌, ◌≢◌, ℕ, List, [], Some, map, string_bytes};
+ghost use Rattle.cl_base.specs.Faults.{HasCause};
+ghost use Rattle.clsd.specs.Sessions.{Session};
+ghost use Rattle.clsd.specs.Words.{command_in};
+
 use crate::command::{Command, command_of};
 use crate::outcome::{NO_MEMORY, Outcome, WRONG_WORDS};
 use crate::session::{Ended, run};
@@ -7,32 +12,67 @@ use cl_frames::{Frames, Sink, Source};
 use std::alloc::Global;
 
 /// Serves one session: reads messages from the source and writes replies to the sink, until the session ends. Each job
-/// is done before the next message is taken. It waits for nobody.
+/// is done before the next message is taken. It waits for nobody. With words that are no command's it touches nothing.
 pub fn serve_serial<S: Source, K: Sink, H: HeaderSource>(
     alloc: Global,
     words: &[String],
     source: &mut S,
     sink: &mut K,
     _headers: &mut H,
-) -> Outcome {
-    if let Command::Bad(_) = command_of(words) {
-        return without_session(alloc, WRONG_WORDS);
+) -> Outcome
+    ensures session { (bytes : List ℕ) → command_in (map string_bytes words.now) ≡ Command.Serial → S.left source.old ≡ Some bytes → K.held sink.old ≡ Some []
+        → Session bytes (S.left source.new) (K.held sink.new) result.journal result.status result.at }
+    ensures served { command_in (map string_bytes words.now) ≡ Command.Serial → result.status ≢ 6 }
+    ensures wrong_words { command_in (map string_bytes words.now) ≢ Command.Serial
+        → (result.status ≡ 6) × (result.at ≡ 0) × (result.journal ≡ []) × (source.new ≡ source.old) × (sink.new ≡ sink.old) }
+    ensures source { HasCause (S.faults source.old) (S.faults source.new) (result.status ≡ 4) }
+    ensures sink { HasCause (K.faults sink.old) (K.faults sink.new) (result.status ≡ 5) }
+    ensures headers { (result.links ≡ 0) × (_headers.new ≡ _headers.old) }
+{
+    match command_of(words) {
+        Command::Serial => serve(alloc, source, sink),
+        Command::Bad(_) => outcome(
+            Ended {
+                status: WRONG_WORDS,
+                at: 0,
+            },
+            List::new(alloc),
+        ),
     }
-    let mut frames = match Frames::new(alloc) {
-        Ok(frames) => frames,
-        Err(Memory) => return without_session(alloc, NO_MEMORY),
-    };
+}
+
+/// Serves one session without workers.
+fn serve<S: Source, K: Sink>(alloc: Global, source: &mut S, sink: &mut K) -> Outcome
+    ensures session { (bytes : List ℕ) → S.left source.old ≡ Some bytes → K.held sink.old ≡ Some []
+        → Session bytes (S.left source.new) (K.held sink.new) result.journal result.status result.at }
+    ensures served { result.status ≢ 6 }
+    ensures source { HasCause (S.faults source.old) (S.faults source.new) (result.status ≡ 4) }
+    ensures sink { HasCause (K.faults sink.old) (K.faults sink.new) (result.status ≡ 5) }
+    ensures links { result.links ≡ 0 }
+{
     let mut core = Core::new(alloc);
-    let ended = run(alloc, &mut frames, &mut core, source, sink);
-    outcome(ended, core.into_journal())
+    match Frames::new(alloc) {
+        Ok(frames) => {
+            let mut frames = frames;
+            let ended = run(alloc, &mut frames, &mut core, source, sink);
+            outcome(ended, core.into_journal())
+        }
+        Err(Memory) => outcome(
+            Ended {
+                status: NO_MEMORY,
+                at: 0,
+            },
+            core.into_journal(),
+        ),
+    }
 }
 
-/// The outcome of a call that began no session.
-fn without_session(alloc: Global, status: u8) -> Outcome {
-    outcome(Ended { status, at: 0 }, List::new(alloc))
-}
-
-fn outcome(ended: Ended, journal: List<Entry>) -> Outcome {
+/// The outcome with this end and this journal.
+fn outcome(ended: Ended, journal: List<Entry>) -> Outcome
+    ensures ended { (result.status ≡ ended.status) × (result.at ≡ ended.at) }
+    ensures links { result.links ≡ 0 }
+    ensures journal { result.journal ≡ journal }
+{
     Outcome {
         status: ended.status,
         at: ended.at,
