@@ -1,13 +1,12 @@
 -- The entries of effects.
-use Rattle.std.proofs.Common.{◌≡◌, List, [], ◌∷◌, ◌++◌, map, ap, ◌∙◌, refl, Bool, true, false}
+use Rattle.std.proofs.Common.{◌≡◌, List, [], ◌∷◌, ◌++◌, map, ap, refl, Bool, true, false}
 use Rattle.std.specs.Prelude.{Option, Some, None, ℕ}
 use Rattle.cl_rpc.specs.declared.out.Reply.{Reply}
 use Rattle.cl_core.specs.declared.event.Entry.{Entry}
 use Rattle.cl_core.specs.declared.event.Effect.{Effect}
 use Rattle.cl_core.specs.declared.event.Effect.TheVariants as effect
-use Rattle.cl_core.specs.declared.waiting.Waiting.{Waiting}
 use Rattle.cl_core.specs.Deciding.{entry_of}
-use Rattle.cl_core.specs.Steps.{entries_of, finish_if, start_jobs}
+use Rattle.cl_core.specs.Steps.{entries_of, finish_if}
 
 pub entries_of_append : (es fs : List Effect) → entries_of (es ++ fs) ≡ entries_of es ++ entries_of fs
 entries_of_append [] fs = refl

@@ -7,7 +7,7 @@ use Rattle.cl_rpc.specs.declared.out.Reply.{Reply}
 use Rattle.cl_core.specs.declared.event.Effect.{Effect}
 use Rattle.cl_core.specs.declared.event.Effect.TheVariants as effect
 use Rattle.cl_core.specs.declared.waiting.Waiting.{Waiting}
-use Rattle.cl_core.specs.Deciding.{ended, reply_by, code_of}
+use Rattle.cl_core.specs.Deciding.{ended}
 
 pub ended-append : (mark : ℕ) (h : How) (xs ys : List Waiting) → ended mark h (xs ++ ys) ≡ ended mark h xs ++ ended (mark + length xs) h ys
 ended-append mark h [] ys = ap (λ (k : ℕ). ended k h ys) (omega arith)

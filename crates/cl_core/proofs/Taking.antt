@@ -1,19 +1,17 @@
 -- A notification that ends requests is taken.
 use Rattle.std.proofs.Math.Seq.{take-append_seam}
-use Rattle.std.proofs.Common.{◌≡◌, ℕ, ◌+◌, length, take, List, [], ◌∷◌, ◌++◌, map, ap, sym, ◌∙◌, refl, subst, Bool, true, false, append-nil, rules}
-use Rattle.std.specs.Prelude.{Option, Some, None, is_some, ◌&&◌, ◌||◌}
+use Rattle.std.proofs.Common.{◌≡◌, ℕ, ◌+◌, length, take, List, ◌∷◌, ◌++◌, map, ap, sym, ◌∙◌, refl, Bool, true, false, append-nil}
+use Rattle.std.specs.Prelude.{Option, is_some, ◌&&◌}
 use Rattle.cl_rpc.specs.declared.call.Call.{Call}
-use Rattle.cl_rpc.specs.declared.call.Parsed.{Parsed}
 use Rattle.cl_rpc.specs.declared.call.Parsed.TheVariants.{Notification}
 use Rattle.cl_core.specs.declared.core_state.Core.{Core}
 use Rattle.cl_core.specs.declared.event.Entry.{Entry}
 use Rattle.cl_core.specs.declared.event.Entry.TheVariants as entry
 use Rattle.cl_core.specs.declared.event.Effect.{Effect}
 use Rattle.cl_core.specs.declared.event.Effect.TheVariants as effect
-use Rattle.cl_core.specs.declared.waiting.Waiting.{Waiting}
 use Rattle.cl_core.specs.History.{text_after}
-use Rattle.cl_core.specs.Deciding.{entry_of, texts_of, left_waiting, replies_of}
-use Rattle.cl_core.specs.Steps.{Takes, entries_of, finish, finish_if, finishes, is_nil, is_exit, pending_after, ending_after, left_by}
+use Rattle.cl_core.specs.Deciding.{texts_of, left_waiting, replies_of}
+use Rattle.cl_core.specs.Steps.{Takes, entries_of, finish_if, is_nil, is_exit, pending_after, ending_after, left_by}
 use Rattle.cl_core.proofs.Effects.{entries_with_finish, entries_of_replies}
 
 pub takes_ended : (old new : Core) (c : Call) (effects all : List Effect) (none_left : Bool)

@@ -1,5 +1,5 @@
 -- What a core stands for.
-use Rattle.std.specs.Prelude.{◌≡◌, ℕ, ◌+◌, ◌<◌, ◌≤◌, List, [], ◌∷◌, ◌++◌, length, reverse, map, Bool, true, false, if◌then◌else◌, Option, Some, None, is_some, slice_get}
+use Rattle.std.specs.Prelude.{◌≡◌, ℕ, ◌+◌, ◌<◌, ◌≤◌, List, [], ◌∷◌, ◌++◌, length, reverse, map, true, false, if◌then◌else◌, Option, Some, None, is_some, slice_get}
 use Rattle.std.specs.List.{AllByRecursion}
 use Rattle.cl_rpc.specs.declared.call.Call.TheVariants as call
 use Rattle.cl_rpc.specs.declared.call.Parsed.{Parsed}
@@ -16,7 +16,7 @@ use Rattle.cl_core.specs.declared.event.Event.TheVariants as event
 use Rattle.cl_core.specs.declared.waiting.Waiting.{Waiting}
 use Rattle.cl_core.specs.History.{received, is_initialised, is_shut_down, text_at, pending}
 use Rattle.cl_core.specs.Legal.{AllFollow, owed, place}
-use Rattle.cl_core.specs.Written.{before, Writes}
+use Rattle.cl_core.specs.Written.{before}
 use Rattle.cl_core.specs.Deciding.{texts_of}
 use Rattle.cl_core.specs.Steps.{is_exit, status_of}
 

@@ -1,12 +1,10 @@
 -- What a step does to a core.
-use Rattle.std.specs.Prelude.{◌≡◌, ◌⊎◌, Contains, ℕ, ℤ, ◌+◌, ◌&&◌, ◌||◌, List, [], ◌∷◌, ◌++◌, length, map, filter, Bool, true, false, not, if◌then◌else◌, Option, Some, None, is_some, nat_eq}
+use Rattle.std.specs.Prelude.{◌≡◌, ◌⊎◌, Contains, ℕ, ◌+◌, ◌&&◌, ◌||◌, List, [], ◌∷◌, ◌++◌, length, map, filter, Bool, true, false, not, if◌then◌else◌, Option, Some, None, is_some, nat_eq}
 use Rattle.std.specs.Str.{bytes_eq}
 use Rattle.cl_store.specs.declared.docs.Docs.{Docs}
-use Rattle.cl_rpc.specs.declared.call.Call.{Call}
 use Rattle.cl_rpc.specs.declared.call.Call.TheVariants as call
 use Rattle.cl_rpc.specs.declared.call.Parsed.{Parsed}
 use Rattle.cl_rpc.specs.declared.call.Parsed.TheVariants as parsed
-use Rattle.cl_rpc.specs.declared.out.Reply.{Reply}
 use Rattle.cl_rpc.specs.declared.out.How.{How}
 use Rattle.cl_rpc.specs.declared.out.Out.{Out}
 use Rattle.cl_query.specs.declared.job.Job.{Job}

@@ -1,5 +1,5 @@
 -- The requests that wait for their replies.
-use Rattle.std.specs.Prelude.{ℕ, ℤ, List, Bool, true, false, nat_eq}
+use Rattle.std.specs.Prelude.{Bool, false, nat_eq}
 use Rattle.std.specs.Str.{bytes_eq}
 use Rattle.std.specs.Ordering.{int_eq}
 use Rattle.cl_rpc.specs.declared.id.Id.{Id}

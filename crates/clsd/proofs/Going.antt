@@ -1,8 +1,8 @@
 -- A session that goes on from frame to frame, and its ends.
 use Rattle.std.proofs.Common.{◌≡◌, ◌⊎◌, ℕ, ◌+◌, ◌<◌, ◌≤◌, ◌^◌, List, [], ◌∷◌, ◌++◌, length, take, drop, map, Bool, true, false, refl, zero, suc, sym, ap, subst, ◌∙◌, append_assoc, append-nil, length-append, arith, inl, inr}
-use Rattle.std.specs.Prelude.{Option, Some, None, Result, Ok, Err, reverse, slice_get, IsTrue, if◌then◌else◌}
-use Rattle.std.proofs.lemmas.List.{take-append-drop, length-take-le, map-append, length-map}
-use Rattle.cl_frames.specs.Frames.{EndsWithin, FramesState, ReadsFrame, whole, wrong, cut, first, window}
+use Rattle.std.specs.Prelude.{Option, Some, Result, Ok, Err, reverse, slice_get, IsTrue, if◌then◌else◌}
+use Rattle.std.proofs.lemmas.List.{take-append-drop, length-take-le}
+use Rattle.cl_frames.specs.Frames.{EndsWithin, ReadsFrame, whole, wrong, cut, first, window}
 use Rattle.cl_frames.specs.Sessions.{IsFront, SplitsInto, EndsAs, edge, bad, long, after_last}
 use Rattle.cl_frames.specs.Sessions as frames
 use Rattle.cl_frames.proofs.SessionLemmas.{front_nil, front_more, front_last, front_end, some_split, ends_wrong, ends_cut, ends_long}
@@ -16,14 +16,14 @@ use Rattle.cl_core.specs.declared.event.Ending.{Ending}
 use Rattle.cl_core.specs.declared.event.Ending.TheVariants as ending
 use Rattle.cl_core.specs.declared.waiting.Waiting.{Waiting}
 use Rattle.cl_core.specs.History.{is_shut_down, pending, received}
-use Rattle.cl_core.specs.Legal.{IsLegal, IsSettled}
+use Rattle.cl_core.specs.Legal.{IsSettled}
 use Rattle.cl_core.specs.Written.{Writes}
 use Rattle.cl_core.specs.Steps.{is_exit, status_of}
 use Rattle.cl_core.specs.Standing.{IsIdle, StandsFor, journal_of, jobs_out, past_of}
 use Rattle.clsd.specs.Serving.{ended_with, EndsInput, Holds, IsCutOff, IsOver, Keeps, LeavesIdle, Turns}
 use Rattle.clsd.specs.declared.turn.Turn.{Turn}
 use Rattle.clsd.specs.declared.turn.Turn.TheVariants.{Ends, SinkFailed, GoesOn}
-use Rattle.clsd.specs.Sessions.{Close, at_exit, at_edge, at_bad, at_long, at_source, at_sink, at_memory, NoneLast, Session, Takes, Writing, StatusIs, LeavesUnread, is_last, is_whole, messages_in}
+use Rattle.clsd.specs.Sessions.{Close, at_exit, at_edge, at_bad, at_long, at_source, at_sink, at_memory, NoneLast, Session, StatusIs, LeavesUnread, is_last, is_whole, messages_in}
 
 -- what holds before each frame: the bytes that were taken are the frames of the bodies that were given, and the core
 -- and the sink stand for these, whatever comes
@@ -148,8 +148,11 @@ module _ (bytes : List ℕ) (at now : ℕ) (left0 held0 left : Option (List ℕ)
 
   framed_if : (b : Bool) → is_last text ≡ b → (e : frames.Ending) × SplitsInto is_last 0 more_taken more_given e
   framed_if true e = (after_last [], (front_last is_last g.front g.behind text g.given read.count g.is_front length_room begins e).1)
-  framed_if false e = (edge, subst (λ (w : List ℕ). SplitsInto is_last 0 w more_given edge) (append-nil more_taken)
-      (front_end is_last more_taken [] more_given edge (front_more is_last g.front g.behind text g.given read.count g.is_front length_room begins e) refl))
+  framed_if false e = (
+    edge,
+    subst (λ (w : List ℕ). SplitsInto is_last 0 w more_given edge) (append-nil more_taken)
+        (front_end is_last more_taken [] more_given edge (front_more is_last g.front g.behind text g.given read.count g.is_front length_room begins e) refl),
+  )
 
   pub next_framed : (e : frames.Ending) × SplitsInto is_last 0 more_taken more_given e
   next_framed = framed_if (is_last text) refl
@@ -321,15 +324,15 @@ starts bytes left held core taken none_taken left_is held_is stands none idle = 
 pub goes_on : (bytes : List ℕ) (at now : ℕ) (left0 held0 left held : Option (List ℕ)) (old new : Core) (text : List ℕ) (g : Goes bytes at left0 held0 old) → at < 2 ^ 40
     → ReadsFrame at now g.behind left (Body text)
     → ((messages : List Parsed) (was : List ℕ) → slice_get messages old.messages ≡ Some (message_in text) → Keeps messages old was → held0 ≡ Some was
-        → Holds held (Keeps messages new) × (new.messages ≡ old.messages + 1) × (is_exit (message_in text) ≡ false))
+    → Holds held (Keeps messages new) × (new.messages ≡ old.messages + 1) × (is_exit (message_in text) ≡ false))
     → Goes bytes now left held new
 goes_on bytes at now left0 held0 left held old new text g room read turn =
     let lead = g.front ++ take read.count g.behind in
     let given = g.given ++ text ∷ [] in
     let turned : (more : List (List ℕ)) → Holds held (Keeps (messages_in (given ++ more)) new) × (new.messages ≡ old.messages + 1) × (is_exit (message_in text) ≡ false)
     = λ more. turn (messages_in (given ++ more)) g.now
-        (rw (with_one g.given more text) (found g.given more text old.messages g.count))
-        (rw (with_one g.given more text) (g.keeps (text ∷ more))) g.held_is in
+    (rw (with_one g.given more text) (found g.given more text old.messages g.count))
+    (rw (with_one g.given more text) (g.keeps (text ∷ more))) g.held_is in
     let here = turned [] in
     let room' : length g.front < 2 ^ 40 = subst (λ (n : ℕ). n < 2 ^ 40) g.taken_is room in
     let begins : first (window (length g.front) g.behind) ≡ whole text read.count = subst (λ (n : ℕ). first (window n g.behind) ≡ whole text read.count) g.taken_is read.tells in

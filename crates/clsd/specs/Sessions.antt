@@ -1,5 +1,5 @@
 -- What a whole session is: what it took, what it answered, and how it ended.
-use Rattle.std.specs.Prelude.{◌≡◌, ℕ, ◌^◌, ◌≤◌, List, [], ◌∷◌, ◌++◌, length, map, reverse, Bool, true, false, if◌then◌else◌, Option, Some, IsTrue}
+use Rattle.std.specs.Prelude.{◌≡◌, ℕ, ◌^◌, ◌≤◌, List, [], ◌++◌, length, map, reverse, Bool, true, false, if◌then◌else◌, Option, Some, IsTrue}
 use Rattle.cl_frames.specs.Sessions.{SplitsInto, edge, bad, long, after_last}
 use Rattle.cl_frames.specs.Sessions as frames
 use Rattle.cl_rpc.specs.declared.call.Parsed.{Parsed}

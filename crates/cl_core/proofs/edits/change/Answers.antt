@@ -1,4 +1,4 @@
-use Rattle.std.proofs.Common.{◌≡◌, refl, rules, true, ap, sym, ◌∙◌}
+use Rattle.std.proofs.Common.{◌≡◌, refl, rules, true}
 use Rattle.cl_rpc.specs.declared.call.Call.TheVariants.{DidChange}
 use Rattle.std.specs.Prelude.{Some, is_some}
 use Rattle.cl_store.specs.Docs.{doc_at}

@@ -1,4 +1,4 @@
-use Rattle.std.proofs.Common.{refl, inr, rules}
+use Rattle.std.proofs.Common.{refl, inr}
 use Rattle.cl_core.proofs.job_end.complete.Goals as goal
 
 pub returns-in-None-clause-ok : goal.returns-in-None-clause-ok

@@ -1,7 +1,5 @@
-use Rattle.std.proofs.Common.{map, ap, sym, ◌∙◌, rules}
-use Rattle.cl_core.specs.declared.event.Effect.TheVariants.{Reply}
+use Rattle.std.proofs.Common.{sym}
 use Rattle.cl_core.specs.Waiting.{is_meant}
-use Rattle.cl_core.specs.Deciding.{ended}
 use Rattle.cl_core.proofs.Ended.{passed_over, pushed}
 use Rattle.cl_core.proofs.replies.ended_by.Goals as goal
 use Rattle.cl_core.proofs.replies.ended_by.Goals.{then-means+in_ok-reply+in_ok-push, else-means}

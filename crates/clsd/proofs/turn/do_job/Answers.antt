@@ -1,4 +1,3 @@
-use Rattle.std.proofs.Common.{sym}
 use Rattle.clsd.proofs.Served.{end_stands, end_turns, part_written}
 use Rattle.clsd.proofs.turn.do_job.Goals as goal
 

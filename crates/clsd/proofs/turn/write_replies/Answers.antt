@@ -1,4 +1,4 @@
-use Rattle.std.proofs.Common.{◌≡◌, ◌+◌, ◌++◌, take, drop, arith, rules}
+use Rattle.std.proofs.Common.{◌≡◌, ◌+◌, ◌++◌, take, drop, arith}
 use Rattle.std.specs.Io.KnownBytes.{append_known}
 use Rattle.cl_core.specs.Standing.{frames_of}
 use Rattle.clsd.specs.Serving.{frame_of}
