@@ -20,6 +20,7 @@ use Rattle.cl_core.specs.Legal.{IsSettled}
 use Rattle.cl_core.specs.Written.{Writes}
 use Rattle.cl_core.specs.Steps.{is_exit, status_of}
 use Rattle.cl_core.specs.Standing.{IsIdle, StandsFor, journal_of, jobs_out, past_of}
+use Rattle.clsd.proofs.InTime.{all_in_time}
 use Rattle.clsd.specs.Serving.{ended_with, EndsInput, Holds, IsCutOff, IsOver, Keeps, LeavesIdle, Turns}
 use Rattle.clsd.specs.declared.turn.Turn.{Turn}
 use Rattle.clsd.specs.declared.turn.Turn.TheVariants.{Ends, SinkFailed, GoesOn}
@@ -94,6 +95,7 @@ sealed bytes taken rest left held bodies ends close core now unwritten code offs
   status = status;
   whole = λ e. none_pending (messages_in bodies) core stands (none e);
   settled = settled;
+  in_time = all_in_time (messages_in bodies) (past_of core) stands.follow settled;
   unread = unread;
 }
 
@@ -283,8 +285,11 @@ module _ (bytes : List ℕ) (at now : ℕ) (left0 held left : Option (List ℕ))
   at_the_limit new res read input =
       let tells : (first (window (length g.front) g.behind) ≡ cut) × (length g.front + read.count ≡ 2 ^ 40)
       = subst (λ (n : ℕ). (first (window n g.behind) ≡ cut) × (n + read.count ≡ 2 ^ 40)) g.taken_is read.tells in
-      ends_here read.count long at_long ending.Long 0 new res read.left_is (ends_long (length g.front) read.count g.behind front_room read.within tells.1 tells.0) (λ b. (refl, refl, refl))
-      (length-append g.front (take read.count g.behind) ∙ ap (λ (n : ℕ). length g.front + n) (length-take-le read.count g.behind read.within) ∙ tells.1) input
+      ends_here read.count long at_long ending.Long 0 new res read.left_is (ends_long (length g.front) read.count g.behind front_room read.within tells.1 tells.0) (λ b. (refl, refl, refl)) (
+        length-append g.front (take read.count g.behind) ∙ ap (λ (n : ℕ). length g.front + n) (length-take-le read.count g.behind read.within) ∙ tells.1,
+        subst (λ (w : List ℕ). SplitsInto is_last 0 w g.given long) (sym g.parts)
+            (front_end is_last g.front g.behind g.given long g.is_front (tells.0, let room : length g.front + read.count ≡ 2 ^ 40 = tells.1 in let within : read.count ≤ length g.behind = read.within in omega arith)),
+      ) input
 
   -- memory was wanting for a frame: some frames may have been taken whose bodies are no messages of the journal
   abbrev pub unseen : ReadsFrame at now g.behind left Memory → List (List ℕ)

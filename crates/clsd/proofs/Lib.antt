@@ -1,3 +1,5 @@
 pub mod Frames
 pub mod Served
 pub mod Going
+pub mod InTime
+pub mod Complete

@@ -1,10 +1,14 @@
 -- What a whole session is: what it took, what it answered, and how it ended.
-use Rattle.std.specs.Prelude.{◌≡◌, ℕ, ◌^◌, ◌≤◌, List, [], ◌++◌, length, map, reverse, Bool, true, false, if◌then◌else◌, Option, Some, IsTrue}
+use Rattle.std.specs.Prelude.{◌≡◌, ◌⊎◌, ℕ, ◌^◌, ◌≤◌, List, [], ◌∷◌, ◌++◌, length, map, reverse, Bool, true, false, if◌then◌else◌, Option, Some, IsTrue}
 use Rattle.cl_frames.specs.Sessions.{SplitsInto, edge, bad, long, after_last}
 use Rattle.cl_frames.specs.Sessions as frames
+use Rattle.cl_base.specs.Faults.{Rose}
 use Rattle.cl_rpc.specs.declared.call.Parsed.{Parsed}
+use Rattle.cl_rpc.specs.declared.out.How.{How}
+use Rattle.cl_rpc.specs.declared.out.How.TheVariants as how
 use Rattle.cl_rpc.specs.Messages.{message_in}
 use Rattle.cl_core.specs.declared.event.Entry.{Entry}
+use Rattle.cl_core.specs.declared.event.Entry.TheVariants.{In, Load, Reply, Notify}
 use Rattle.cl_core.specs.History.{is_shut_down, pending, received}
 use Rattle.cl_core.specs.Legal.{IsLegal, IsSettled}
 use Rattle.cl_core.specs.Written.{Writes}
@@ -50,13 +54,13 @@ StatusIs at_source shut_down ends status at = (status ≡ 4) × (at ≡ 0) × No
 StatusIs at_sink shut_down ends status at = (status ≡ 5) × (at ≡ 0)
 StatusIs at_memory shut_down ends status at = (status ≡ 7) × (at ≡ 0)
 
--- what is left unread: what stands behind the `exit`; nothing at the end of the input; and bytes that are no frame are
--- so among all of the source's
+-- what is left unread: what stands behind the `exit`; nothing at the end of the input; and bytes that are no frame, or
+-- too many, are so among all of the source's
 abbrev pub LeavesUnread : Close → (bytes taken rest : List ℕ) → List (List ℕ) → ℕ → Type 0
 LeavesUnread at_exit bytes taken rest bodies at = SplitsInto is_last 0 bytes bodies (after_last rest)
 LeavesUnread at_edge bytes taken rest bodies at = rest ≡ []
 LeavesUnread at_bad bytes taken rest bodies at = SplitsInto is_last 0 bytes bodies (bad at)
-LeavesUnread at_long bytes taken rest bodies at = length taken ≡ 2 ^ 40
+LeavesUnread at_long bytes taken rest bodies at = (length taken ≡ 2 ^ 40) × SplitsInto is_last 0 bytes bodies long
 LeavesUnread _ bytes taken rest bodies at = Unit {0}
 
 -- the messages of the journal are the first ones of the bodies that were taken, and all of them where the session was whole
@@ -72,6 +76,21 @@ pub record Writing (close : Close) (messages : List Parsed) (past : List Entry) 
   pub held_is : held ≡ Some now
   pub writes : Writes messages past (now ++ unwritten)
   pub all : IsTrue (is_whole close) → unwritten ≡ []
+
+-- without workers no request is ended early
+abbrev pub IsInTime : How → Type 0
+IsInTime how.Answered = Unit {0}
+IsInTime how.Cancelled = ⊥
+IsInTime how.Modified = ⊥
+IsInTime how.Refused = Unit {0}
+IsInTime how.Memory = Unit {0}
+
+abbrev pub AreInTime : List Entry → Type 0
+AreInTime [] = Unit {0}
+AreInTime (In n ∷ past) = AreInTime past
+AreInTime (Load n ∷ past) = AreInTime past
+AreInTime (Reply message mark how ∷ past) = IsInTime how × AreInTime past
+AreInTime (Notify message mark ∷ past) = AreInTime past
 
 -- a session over these bytes of its source, which left `left` of them, and wrote to a sink that was empty and now holds
 -- `held`: its journal, its status `code`, and the offset that it tells
@@ -89,4 +108,13 @@ pub record Session (bytes : List ℕ) (left held : Option (List ℕ)) (journal :
   pub status : StatusIs close (is_shut_down (messages_in bodies) (reverse journal)) ends code offset
   pub whole : IsTrue (is_whole close) → pending (messages_in bodies) (reverse journal) ≡ []
   pub settled : IsSettled (messages_in bodies) (reverse journal)
+  pub in_time : AreInTime (reverse journal)
   pub unread : LeavesUnread close bytes taken rest bodies offset
+
+-- a count of faults that didn't rise
+abbrev pub StoodStill : ℕ → ℕ → Type 0
+StoodStill before now = Rose before now → ⊥
+
+-- the status of a session whose input has an `exit`, where nothing failed
+abbrev pub RanToTheEnd : ℕ → Type 0
+RanToTheEnd code = (code ≡ 0) ⊎ ((code ≡ 1) ⊎ (code ≡ 7))

@@ -72,3 +72,51 @@ pub fn no_exit() -> &'static str {
 < {\"error\":{\"code\":-32002,\"message\":\"not initialized\"},\"id\":1,\"jsonrpc\":\"2.0\"}
 "
 }
+
+/// Five documents that are opened, changed, closed and opened again, and asked in between.
+pub fn five_documents() -> &'static str {
+    "> {\"jsonrpc\":\"2.0\",\"id\":\"first\",\"method\":\"initialize\",\"params\":{}}
+< {\"id\":\"first\",\"jsonrpc\":\"2.0\",\"result\":{\"capabilities\":{\"documentSymbolProvider\":true,\"textDocumentSync\":1},\"serverInfo\":{\"name\":\"clsd\"}}}
+> {\"jsonrpc\":\"2.0\",\"method\":\"textDocument/didOpen\",\"params\":{\"textDocument\":{\"uri\":\"file:///a.c\",\"version\":1,\"text\":\"int a;\"}}}
+> {\"jsonrpc\":\"2.0\",\"method\":\"textDocument/didOpen\",\"params\":{\"textDocument\":{\"uri\":\"file:///b.c\",\"version\":1,\"text\":\"int b;int bb;\"}}}
+> {\"jsonrpc\":\"2.0\",\"method\":\"textDocument/didOpen\",\"params\":{\"textDocument\":{\"uri\":\"file:///c.c\",\"version\":1,\"text\":\"\"}}}
+> {\"jsonrpc\":\"2.0\",\"method\":\"textDocument/didOpen\",\"params\":{\"textDocument\":{\"uri\":\"file:///d.c\",\"version\":1,\"text\":\"int d\"}}}
+> {\"jsonrpc\":\"2.0\",\"method\":\"textDocument/didOpen\",\"params\":{\"textDocument\":{\"uri\":\"file:///e.c\",\"version\":1,\"text\":\"\\tint e ;\\n\"}}}
+> {\"jsonrpc\":\"2.0\",\"id\":1,\"method\":\"textDocument/documentSymbol\",\"params\":{\"textDocument\":{\"uri\":\"file:///a.c\"}}}
+< {\"id\":1,\"jsonrpc\":\"2.0\",\"result\":[{\"kind\":13,\"name\":\"a\",\"range\":{\"end\":{\"character\":6,\"line\":0},\"start\":{\"character\":0,\"line\":0}},\"selectionRange\":{\"end\":{\"character\":5,\"line\":0},\"start\":{\"character\":4,\"line\":0}}}]}
+> {\"jsonrpc\":\"2.0\",\"id\":2,\"method\":\"textDocument/documentSymbol\",\"params\":{\"textDocument\":{\"uri\":\"file:///b.c\"}}}
+< {\"id\":2,\"jsonrpc\":\"2.0\",\"result\":[{\"kind\":13,\"name\":\"b\",\"range\":{\"end\":{\"character\":6,\"line\":0},\"start\":{\"character\":0,\"line\":0}},\"selectionRange\":{\"end\":{\"character\":5,\"line\":0},\"start\":{\"character\":4,\"line\":0}}},{\"kind\":13,\"name\":\"bb\",\"range\":{\"end\":{\"character\":13,\"line\":0},\"start\":{\"character\":6,\"line\":0}},\"selectionRange\":{\"end\":{\"character\":12,\"line\":0},\"start\":{\"character\":10,\"line\":0}}}]}
+> {\"jsonrpc\":\"2.0\",\"id\":3,\"method\":\"textDocument/documentSymbol\",\"params\":{\"textDocument\":{\"uri\":\"file:///c.c\"}}}
+< {\"id\":3,\"jsonrpc\":\"2.0\",\"result\":[]}
+> {\"jsonrpc\":\"2.0\",\"id\":4,\"method\":\"textDocument/documentSymbol\",\"params\":{\"textDocument\":{\"uri\":\"file:///d.c\"}}}
+< {\"id\":4,\"jsonrpc\":\"2.0\",\"result\":[]}
+> {\"jsonrpc\":\"2.0\",\"id\":5,\"method\":\"textDocument/documentSymbol\",\"params\":{\"textDocument\":{\"uri\":\"file:///e.c\"}}}
+< {\"id\":5,\"jsonrpc\":\"2.0\",\"result\":[{\"kind\":13,\"name\":\"e\",\"range\":{\"end\":{\"character\":8,\"line\":0},\"start\":{\"character\":1,\"line\":0}},\"selectionRange\":{\"end\":{\"character\":6,\"line\":0},\"start\":{\"character\":5,\"line\":0}}}]}
+> {\"jsonrpc\":\"2.0\",\"method\":\"textDocument/didChange\",\"params\":{\"textDocument\":{\"uri\":\"file:///c.c\",\"version\":2},\"contentChanges\":[{\"text\":\"int c;\\n int cc ;\"}]}}
+> {\"jsonrpc\":\"2.0\",\"method\":\"textDocument/didChange\",\"params\":{\"textDocument\":{\"uri\":\"file:///b.c\",\"version\":2},\"contentChanges\":[]}}
+> {\"jsonrpc\":\"2.0\",\"method\":\"textDocument/didChange\",\"params\":{\"textDocument\":{\"uri\":\"file:///d.c\",\"version\":2},\"contentChanges\":[{\"text\":\"int wrong;\"},{\"text\":\"int\\nright\\n;\"}]}}
+> {\"jsonrpc\":\"2.0\",\"method\":\"textDocument/didClose\",\"params\":{\"textDocument\":{\"uri\":\"file:///a.c\"}}}
+> {\"jsonrpc\":\"2.0\",\"id\":6,\"method\":\"textDocument/documentSymbol\",\"params\":{\"textDocument\":{\"uri\":\"file:///a.c\"}}}
+< {\"error\":{\"code\":-32602,\"message\":\"invalid params\"},\"id\":6,\"jsonrpc\":\"2.0\"}
+> {\"jsonrpc\":\"2.0\",\"id\":7,\"method\":\"textDocument/documentSymbol\",\"params\":{\"textDocument\":{\"uri\":\"file:///b.c\"}}}
+< {\"id\":7,\"jsonrpc\":\"2.0\",\"result\":[{\"kind\":13,\"name\":\"b\",\"range\":{\"end\":{\"character\":6,\"line\":0},\"start\":{\"character\":0,\"line\":0}},\"selectionRange\":{\"end\":{\"character\":5,\"line\":0},\"start\":{\"character\":4,\"line\":0}}},{\"kind\":13,\"name\":\"bb\",\"range\":{\"end\":{\"character\":13,\"line\":0},\"start\":{\"character\":6,\"line\":0}},\"selectionRange\":{\"end\":{\"character\":12,\"line\":0},\"start\":{\"character\":10,\"line\":0}}}]}
+> {\"jsonrpc\":\"2.0\",\"id\":8,\"method\":\"textDocument/documentSymbol\",\"params\":{\"textDocument\":{\"uri\":\"file:///c.c\"}}}
+< {\"id\":8,\"jsonrpc\":\"2.0\",\"result\":[{\"kind\":13,\"name\":\"c\",\"range\":{\"end\":{\"character\":6,\"line\":0},\"start\":{\"character\":0,\"line\":0}},\"selectionRange\":{\"end\":{\"character\":5,\"line\":0},\"start\":{\"character\":4,\"line\":0}}},{\"kind\":13,\"name\":\"cc\",\"range\":{\"end\":{\"character\":9,\"line\":1},\"start\":{\"character\":1,\"line\":1}},\"selectionRange\":{\"end\":{\"character\":7,\"line\":1},\"start\":{\"character\":5,\"line\":1}}}]}
+> {\"jsonrpc\":\"2.0\",\"id\":9,\"method\":\"textDocument/documentSymbol\",\"params\":{\"textDocument\":{\"uri\":\"file:///d.c\"}}}
+< {\"id\":9,\"jsonrpc\":\"2.0\",\"result\":[{\"kind\":13,\"name\":\"right\",\"range\":{\"end\":{\"character\":1,\"line\":2},\"start\":{\"character\":0,\"line\":0}},\"selectionRange\":{\"end\":{\"character\":5,\"line\":1},\"start\":{\"character\":0,\"line\":1}}}]}
+> {\"jsonrpc\":\"2.0\",\"method\":\"textDocument/didChange\",\"params\":{\"textDocument\":{\"uri\":\"file:///b.c\",\"version\":2},\"contentChanges\":[{\"text\":\"\"}]}}
+> {\"jsonrpc\":\"2.0\",\"method\":\"textDocument/didChange\",\"params\":{\"textDocument\":{\"uri\":\"file:///a.c\",\"version\":2},\"contentChanges\":[{\"text\":\"int gone;\"}]}}
+> {\"jsonrpc\":\"2.0\",\"method\":\"textDocument/didOpen\",\"params\":{\"textDocument\":{\"uri\":\"file:///a.c\",\"version\":1,\"text\":\"int again;\"}}}
+> {\"jsonrpc\":\"2.0\",\"method\":\"textDocument/didClose\",\"params\":{\"textDocument\":{\"uri\":\"file:///e.c\"}}}
+> {\"jsonrpc\":\"2.0\",\"method\":\"textDocument/didClose\",\"params\":{\"textDocument\":{\"uri\":\"file:///e.c\"}}}
+> {\"jsonrpc\":\"2.0\",\"id\":10,\"method\":\"textDocument/documentSymbol\",\"params\":{\"textDocument\":{\"uri\":\"file:///a.c\"}}}
+< {\"id\":10,\"jsonrpc\":\"2.0\",\"result\":[{\"kind\":13,\"name\":\"again\",\"range\":{\"end\":{\"character\":10,\"line\":0},\"start\":{\"character\":0,\"line\":0}},\"selectionRange\":{\"end\":{\"character\":9,\"line\":0},\"start\":{\"character\":4,\"line\":0}}}]}
+> {\"jsonrpc\":\"2.0\",\"id\":11,\"method\":\"textDocument/documentSymbol\",\"params\":{\"textDocument\":{\"uri\":\"file:///b.c\"}}}
+< {\"id\":11,\"jsonrpc\":\"2.0\",\"result\":[]}
+> {\"jsonrpc\":\"2.0\",\"id\":12,\"method\":\"textDocument/documentSymbol\",\"params\":{\"textDocument\":{\"uri\":\"file:///e.c\"}}}
+< {\"error\":{\"code\":-32602,\"message\":\"invalid params\"},\"id\":12,\"jsonrpc\":\"2.0\"}
+> {\"jsonrpc\":\"2.0\",\"id\":99,\"method\":\"shutdown\"}
+< {\"id\":99,\"jsonrpc\":\"2.0\",\"result\":null}
+> {\"jsonrpc\":\"2.0\",\"method\":\"exit\"}
+"
+}
