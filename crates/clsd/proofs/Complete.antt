@@ -1,5 +1,5 @@
 -- A session whose input has an `exit` runs to it, where nothing fails.
-use Rattle.std.proofs.Common.{◌≡◌, ◌⊎◌, inl, inr, ℕ, ◌^◌, List, [], ◌++◌, Bool, true, false, refl, sym, ◌∙◌, ap, subst, append-nil, arith}
+use Rattle.std.proofs.Common.{◌≡◌, inl, inr, ℕ, List, ◌++◌, Bool, true, false, sym, ◌∙◌, ap, subst, append-nil, arith}
 use Rattle.std.specs.Prelude.{Option, if◌then◌else◌}
 use Rattle.cl_frames.specs.Sessions.{SplitsInto, edge, bad, long, after_last}
 use Rattle.cl_frames.specs.Sessions as frames

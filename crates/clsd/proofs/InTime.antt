@@ -1,7 +1,6 @@
 -- A session that is settled wherever a message is received ends no request early.
-use Rattle.std.proofs.Common.{◌≡◌, ℕ, ℤ, List, [], ◌∷◌, map, filter, Bool, true, false, sym, subst}
+use Rattle.std.proofs.Common.{◌≡◌, ℕ, ℤ, List, [], ◌∷◌, filter, Bool, true, false, sym, subst}
 use Rattle.std.specs.Prelude.{Option, Some, None, if◌then◌else◌, is_some}
-use Rattle.cl_rpc.specs.declared.id.Id.{Id}
 use Rattle.cl_rpc.specs.declared.call.Call.{Call}
 use Rattle.cl_rpc.specs.declared.call.Call.TheVariants as call
 use Rattle.cl_rpc.specs.declared.call.Parsed.{Parsed}

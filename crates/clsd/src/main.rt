@@ -16,14 +16,15 @@ use crate::outcome::{NO_MEMORY, WRONG_WORDS};
 use crate::serve::serve_serial;
 use cl_base::{List, MemoryHeaders};
 use cl_frames::{StdSink, StdSource};
-use std::env;
 use std::process::ExitCode;
+use std::{env, io};
 
 fn main(rt: HostRuntime) -> ExitCode {
     let alloc = rt.alloc();
     let mut words = Vec::new(alloc);
-    let Ok(given) = env::args(&rt) else {
-        return ExitCode::from(WRONG_WORDS);
+    let given = match env::args(&rt) {
+        Ok(given) => given,
+        Err(error) => return ExitCode::from(status_of_words(error.kind())),
     };
     for word in given.skip(1) {
         if words.push(word).is_err() {
@@ -48,4 +49,12 @@ fn main(rt: HostRuntime) -> ExitCode {
         &mut headers,
     );
     ExitCode::from(outcome.status)
+}
+
+/// The status where the words can't be had: one of them isn't UTF-8, or memory is wanting.
+fn status_of_words(kind: io::ErrorKind) -> u8 {
+    match kind {
+        io::ErrorKind::OutOfMemory => NO_MEMORY,
+        _ => WRONG_WORDS,
+    }
 }
