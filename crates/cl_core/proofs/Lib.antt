@@ -17,3 +17,4 @@ pub mod Asking
 pub mod MessageStands
 pub mod Times
 pub mod Once
+pub mod Running

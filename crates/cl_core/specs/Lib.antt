@@ -7,3 +7,4 @@ pub mod Deciding
 pub mod Standing
 pub mod Steps
 pub mod Once
+pub mod Runs

@@ -20,4 +20,4 @@ mod waiting;
 
 pub use core_state::Core;
 pub use event::{Effect, Ending, Entry, Event};
-pub use laws::one_reply;
+pub use laws::{any_run, one_reply};
