@@ -143,14 +143,21 @@ fn each_fault_in_turn(rt: HostRuntime) -> Result<(), Fail> {
     let alloc = rt.alloc();
     let input = frames_of(alloc, scripts::first_session(), "> ")?;
     let wanted = frames_of(alloc, scripts::first_session(), "< ")?;
-    for call in 0..200u64 {
+    let mut past_the_last = false;
+    for call in 0..400u64 {
         let fails = [call];
         let source = MemorySource::new(alloc, input.as_bytes(), 64, &fails).map_err(of_memory)?;
         let sink = MemorySink::new(alloc, 1000, &[]).map_err(of_memory)?;
         let (outcome, sink) = served(alloc, source, sink)?;
-        assert!(rt; outcome.status == 4 || call > 100, "a read that fails");
-        assert!(rt; wanted.as_bytes().starts_with(sink.held()));
+        if outcome.status == 0 {
+            past_the_last = true;
+            assert!(rt; sink.held() == wanted.as_bytes(), "no read failed");
+        } else {
+            assert!(rt; outcome.status == 4 && !past_the_last, "a read that fails");
+            assert!(rt; wanted.as_bytes().starts_with(sink.held()));
+        }
     }
+    assert!(rt; past_the_last, "some call is past the last read");
     for call in 0..9u64 {
         let fails = [call];
         let source = MemorySource::new(alloc, input.as_bytes(), 64, &[]).map_err(of_memory)?;
