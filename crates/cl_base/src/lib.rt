@@ -14,6 +14,7 @@ mod place;
 #[cfg(test)]
 mod tests;
 mod text;
+mod token;
 
 pub use answer::{Answer, Symbol};
 pub use duplicate::Duplicate;
@@ -25,3 +26,4 @@ pub use name::Name;
 pub use path::Path;
 pub use place::{Position, Range};
 pub use text::Text;
+pub use token::{Diag, Fault, Kind, Lexed, PpToken, Span, Token};
