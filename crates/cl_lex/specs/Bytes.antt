@@ -1,17 +1,32 @@
--- The kinds of bytes.
+-- The kinds of characters (N1570 6.4).
 use Rattle.std.specs.Prelude.{ℕ, Bool, ◌||◌, ◌&&◌, ◌==◌, nat_le}
 
 abbrev pub is_between : ℕ → ℕ → ℕ → Bool
-is_between low high byte = nat_le low byte && nat_le byte high
+is_between low high c = nat_le low c && nat_le c high
 
--- a letter or `_`
+abbrev pub is_digit : ℕ → Bool
+is_digit c = is_between 48 57 c
+
+-- a letter or `_` (6.4.2.1, nondigit)
 abbrev pub is_name_start : ℕ → Bool
-is_name_start byte = is_between 65 90 byte || is_between 97 122 byte || byte == 95
+is_name_start c = is_between 65 90 c || is_between 97 122 c || c == 95
 
 -- a letter, `_` or a digit
 abbrev pub is_name_byte : ℕ → Bool
-is_name_byte byte = is_name_start byte || is_between 48 57 byte
+is_name_byte c = is_name_start c || is_digit c
 
--- a tab, a line's end or a space
+-- white space within a line: tab, vertical tab, form feed, space (6.4p3)
 abbrev pub is_blank : ℕ → Bool
-is_blank byte = byte == 9 || byte == 10 || byte == 32
+is_blank c = c == 32 || c == 9 || c == 11 || c == 12
+
+-- `e`, `E`, `p` or `P` (6.4.8)
+abbrev pub is_exponent : ℕ → Bool
+is_exponent c = c == 101 || c == 69 || c == 112 || c == 80
+
+-- `+` or `-`
+abbrev pub is_sign : ℕ → Bool
+is_sign c = c == 43 || c == 45
+
+-- `"` or `'`
+abbrev pub is_quote : ℕ → Bool
+is_quote c = c == 34 || c == 39

@@ -1,52 +1,83 @@
--- Which list of tokens a text has.
-use Rattle.std.specs.Prelude.{◌≡◌, ℕ, ◌<◌, ◌≤◌, ◌+◌, List, [], ◌∷◌, length, slice_index, true, false}
-use Rattle.cl_lex.specs.declared.token.Token.{Token}
-use Rattle.cl_lex.specs.declared.token.Kind.{Kind}
-use Rattle.cl_lex.specs.declared.token.Kind.TheVariants.{Ident, Other}
-use Rattle.cl_lex.specs.Bytes.{is_blank, is_name_byte, is_name_start}
+-- The tokens of a text, and its faults (N1570 5.1.1.2 phases 1 to 3).
+use Rattle.std.specs.Prelude.{◌≡◌, ℕ, ◌+◌, ◌-◌, ◌<◌, ◌==◌, List, [], ◌∷◌, ◌++◌, length, slice_index_or, slice_index, slice_range, Bool, true, false, if◌then◌else◌}
+use Rattle.cl_base.specs.declared.token.Kind.{Kind}
+use Rattle.cl_base.specs.declared.token.Kind.TheVariants as kind
+use Rattle.cl_base.specs.declared.token.Token.{Token}
+use Rattle.cl_base.specs.declared.token.Fault.{Fault}
+use Rattle.cl_base.specs.declared.token.Lexed.{Lexed}
+use Rattle.cl_base.specs.Characters.{char_len}
+use Rattle.cl_lex.specs.declared.item.Item.{Item}
+use Rattle.cl_lex.specs.declared.item.ItemKind.{ItemKind}
+use Rattle.cl_lex.specs.declared.item.ItemKind.TheVariants as item
+use Rattle.cl_lex.specs.declared.item.Line.TheVariants as line
+use Rattle.cl_lex.specs.Bytes.{is_quote}
+use Rattle.cl_lex.specs.Source.{Character, characters, values}
+use Rattle.cl_lex.specs.Items.{Tiles}
 
--- only blanks from one place up to another
-abbrev pub IsBlank : List ℕ → ℕ → ℕ → Type 0
-IsBlank text from to = (i : ℕ) → from ≤ i → i < to → is_blank (slice_index text i) ≡ true
+abbrev pub nothing : Character
+nothing = record { value = 0; from = 0; to = 0 }
 
--- only letters, `_` and digits from one place up to another
-abbrev pub AreNameBytes : List ℕ → ℕ → ℕ → Type 0
-AreNameBytes text from to = (i : ℕ) → from ≤ i → i < to → is_name_byte (slice_index text i) ≡ true
+module _ (cs : List Character) where
+  -- where the characters from one place up to another begin and end in the text as it is given
+  abbrev pub begins : ℕ → ℕ
+  begins from = (slice_index_or cs from nothing).from
 
--- no name goes on at this place
-abbrev pub EndsName : List ℕ → ℕ → Type 0
-EndsName text to = to < length text → is_name_byte (slice_index text to) ≡ false
+  abbrev pub ends : ℕ → ℕ
+  ends to = (slice_index_or cs (to - 1) nothing).to
 
--- a name, as long as it goes
-pub record IsName (text : List ℕ) (from to : ℕ) : Type 0 where
-  pub some : from < to
-  pub within : to ≤ length text
-  pub starts : is_name_start (slice_index text from) ≡ true
-  pub goes : AreNameBytes text from to
-  pub ends : EndsName text to
+  abbrev pub token_of : Kind → Item → Bool → Bool → Token
+  token_of k it space first = record {
+    kind = k;
+    text = slice_range (values cs) it.from it.to;
+    from = begins it.from;
+    to = ends it.to;
+    space = space;
+    first = first;
+  }
 
--- one byte that begins no name and is no blank
-pub record IsOther (text : List ℕ) (from to : ℕ) : Type 0 where
-  pub one : to ≡ from + 1
-  pub within : to ≤ length text
-  pub no_name : is_name_start (slice_index text from) ≡ false
-  pub no_blank : is_blank (slice_index text from) ≡ false
+  -- the tokens among the items, where it is known whether white space and whether a line's start is right before
+  abbrev pub tokens_by : ItemKind → Item → Bool → Bool → List Token
+  tokens_by (item.Token k) it space first = token_of k it space first ∷ []
+  tokens_by other it space first = []
 
-abbrev pub Spells : List ℕ → Kind → ℕ → ℕ → Type 0
-Spells text Ident from to = IsName text from to
-Spells text Other from to = IsOther text from to
+  -- white space or a comment is the last thing after this item, and no token is on its line
+  abbrev pub space_after : ItemKind → Bool
+  space_after (item.Token k) = false
+  space_after other = true
 
--- the first token from a place on, with blanks before it at most
-pub record IsNext (text : List ℕ) (at : ℕ) (token : Token) : Type 0 where
-  pub after : at ≤ token.from
-  pub blank : IsBlank text at token.from
-  pub spells : Spells text token.kind token.from token.to
+  abbrev pub first_after : ItemKind → Bool → Bool
+  first_after (item.Token k) first = false
+  first_after item.NewLine first = true
+  first_after other first = first
 
--- the tokens from a place on: one follows the other up to the text's end
-abbrev pub Tiles : List ℕ → ℕ → List Token → Type 0
-Tiles text at [] = IsBlank text at (length text)
-Tiles text at (token ∷ tokens) = IsNext text at token × Tiles text token.to tokens
+  abbrev pub tokens_of : Bool → Bool → List Item → List Token
+  tokens_of space first [] = []
+  tokens_of space first (it ∷ items) =
+      tokens_by it.kind it space first ++ tokens_of (space_after it.kind) (first_after it.kind first) items
 
--- the tokens of a text
-abbrev pub Lexes : List ℕ → List Token → Type 0
-Lexes text tokens = Tiles text 0 tokens
+  abbrev pub fault_of : ℕ → ℕ → ℕ → Fault
+  fault_of number from to = record { number = number; from = begins from; to = ends to }
+
+  -- an Other token is a lone quote, a byte of no character, a null character, or no fault yet
+  abbrev pub stray_faults : ℕ → Item → List Fault
+  stray_faults c it =
+      if is_quote c then fault_of 2 it.from it.to ∷ [] else
+      if char_len (values cs) it.from == 0 then fault_of 3 it.from it.to ∷ [] else
+      if c == 0 then fault_of 4 it.from it.to ∷ [] else []
+
+  -- the two characters that open a comment without an end
+  abbrev pub faults_by : ItemKind → Item → List Fault
+  faults_by (item.Token kind.Other) it = stray_faults (slice_index (values cs) it.from) it
+  faults_by item.OpenComment it = fault_of 1 it.from (it.from + 2) ∷ []
+  faults_by other it = []
+
+  abbrev pub faults_of : List Item → List Fault
+  faults_of [] = []
+  faults_of (it ∷ items) = faults_by it.kind it ++ faults_of items
+
+-- the tokens and the faults of a text are those of its items
+pub record Lexes (text : List ℕ) (lexed : Lexed) : Type 0 where
+  pub items : List Item
+  pub tiles : Tiles (values (characters text)) line.Start 0 items
+  pub tokens : lexed.tokens ≡ tokens_of (characters text) false true items
+  pub faults : lexed.faults ≡ faults_of (characters text) items

@@ -1,3 +1,6 @@
 pub mod Bytes
-pub mod Tokens
+pub mod Source
+pub mod Spelling
+pub mod Punctuators
+pub mod Items
 pub mod Lexing

@@ -1,25 +1,64 @@
-//! The kinds of bytes.
+//! The kinds of characters.
 
 ghost use Rattle.std.specs.Prelude.{◌≡◌};
-ghost use Rattle.cl_lex.specs.Bytes.{is_blank, is_name_byte, is_name_start};
+ghost use Rattle.cl_lex.specs.Bytes.{is_blank, is_digit, is_exponent, is_name_byte, is_name_start, is_quote, is_sign};
+ghost use Rattle.cl_lex.specs.Source.{stands};
 
-/// Whether the byte is a letter or `_`.
-pub fn is_name_start(byte: u8) -> bool
-    ensures { result ≡ is_name_start byte }
+/// Whether the character is a letter or `_` (N1570 6.4.2.1, nondigit).
+pub(crate) fn is_name_start(c: u8) -> bool
+    ensures { result ≡ is_name_start c }
 {
-    matches!(byte, b'A'..=b'Z' | b'a'..=b'z' | b'_')
+    matches!(c, b'A'..=b'Z' | b'a'..=b'z' | b'_')
 }
 
-/// Whether the byte is a letter, `_` or a digit.
-pub fn is_name_byte(byte: u8) -> bool
-    ensures { result ≡ is_name_byte byte }
+/// Whether the character is a digit.
+pub(crate) fn is_digit(c: u8) -> bool
+    ensures { result ≡ is_digit c }
 {
-    is_name_start(byte) || matches!(byte, b'0'..=b'9')
+    matches!(c, b'0'..=b'9')
 }
 
-/// Whether the byte is a tab, a line's end or a space.
-pub fn is_blank(byte: u8) -> bool
-    ensures { result ≡ is_blank byte }
+/// Whether the character is a letter, `_` or a digit.
+pub(crate) fn is_name_byte(c: u8) -> bool
+    ensures { result ≡ is_name_byte c }
 {
-    matches!(byte, b'\t' | b'\n' | b' ')
+    is_name_start(c) || is_digit(c)
+}
+
+/// Whether the character is white space within a line: tab, vertical tab, form feed or space (N1570 6.4p3).
+pub(crate) fn is_blank(c: u8) -> bool
+    ensures { result ≡ is_blank c }
+{
+    matches!(c, b' ' | b'\t' | 11 | 12)
+}
+
+/// Whether the character is a letter before a number's exponent (N1570 6.4.8).
+pub(crate) fn is_exponent(c: u8) -> bool
+    ensures { result ≡ is_exponent c }
+{
+    matches!(c, b'e' | b'E' | b'p' | b'P')
+}
+
+/// Whether the character is `+` or `-`.
+pub(crate) fn is_sign(c: u8) -> bool
+    ensures { result ≡ is_sign c }
+{
+    matches!(c, b'+' | b'-')
+}
+
+/// Whether the character is `"` or `'`.
+pub(crate) fn is_quote(c: u8) -> bool
+    ensures { result ≡ is_quote c }
+{
+    matches!(c, b'"' | b'\'')
+}
+
+/// Whether this character stands there.
+pub(crate) fn stands(text: &[u8], at: usize, c: u8) -> bool
+    ensures { result ≡ stands text.now at c }
+{
+    match text.get(at) {
+        Some(found) => *found == c,
+        None => false,
+    }
 }

@@ -1,11 +1,5 @@
-//! The tokens of a C text: names, and every other byte that is no blank by itself.
+//! The tokens of a C text, by translation phases 1 to 3 (N1570 5.1.1.2).
 #![tactic(auto)]
 
 mod bytes;
-mod laws;
-mod scan;
-mod token;
-
-pub use laws::one_list;
-pub use scan::lex;
-pub use token::{Kind, NO_TOKEN, Token, spelling, token_at};
+mod item;
