@@ -19,6 +19,18 @@ abbrev pub takes_header : Line → Bool
 takes_header line.Include = true
 takes_header _ = false
 
+-- it spells `#` or its digraph
+abbrev pub is_hash : List ℕ → Bool
+is_hash text = pointwise nat_eq text (codes "#") || pointwise nat_eq text (codes "%:")
+
+-- what stands on a line after an item that is spelled so
+abbrev pub line_by : Line → ItemKind → List ℕ → Line
+line_by before item.NewLine text = line.Start
+line_by line.Start (item.Token kind.Punct) text = if is_hash text then line.Hash else line.Rest
+line_by line.Hash (item.Token kind.Ident) text = if pointwise nat_eq text (codes "include") then line.Include else line.Rest
+line_by before (item.Token k) text = line.Rest
+line_by before _ text = before
+
 module _ (cs : List ℕ) where
   -- the characters from one place up to another are an item of this kind. Where a header name can be formed it goes
   -- before a string literal (6.4p4)
@@ -62,22 +74,11 @@ module _ (cs : List ℕ) where
   IsItem header (item.Token kind.Other) from to = IsStray header from × (IsLoneQuote from to ⊎ IsAlone from to)
   IsItem header what from to = IsLongest header what from to
 
-  -- what stands on the line after a further item
-  abbrev pub line_after_hash : Bool → Line
-  line_after_hash is_hash = if is_hash then line.Hash else line.Rest
-
   abbrev pub line_after : Line → Item → Line
   line_after before it = line_by before it.kind (slice_range cs it.from it.to)
-    where
-      line_by : Line → ItemKind → List ℕ → Line
-      line_by before item.NewLine text = line.Start
-      line_by line.Start (item.Token kind.Punct) text = if pointwise nat_eq text (codes "#") || pointwise nat_eq text (codes "%:") then line.Hash else line.Rest
-      line_by line.Hash (item.Token kind.Ident) text = if pointwise nat_eq text (codes "include") then line.Include else line.Rest
-      line_by before (item.Token k) text = line.Rest
-      line_by before other text = before
 
   -- the items from a place on: one follows the other up to the end
   abbrev pub Tiles : Line → ℕ → List Item → Type 0
   Tiles before at [] = at ≡ length cs
   Tiles before at (it ∷ items) =
-      (at < length cs) × (it.from ≡ at) × IsItem (takes_header before) it.kind at it.to × Tiles (line_after before it) it.to items
+      (it.from ≡ at) × (at < it.to) × (it.to ≤ length cs) × IsItem (takes_header before) it.kind at it.to × Tiles (line_after before it) it.to items

@@ -17,6 +17,16 @@ use Rattle.cl_lex.specs.Items.{Tiles}
 abbrev pub nothing : Character
 nothing = record { value = 0; from = 0; to = 0 }
 
+-- white space or a comment is the last thing after this item, and no token is on its line
+abbrev pub space_after : ItemKind → Bool
+space_after (item.Token k) = false
+space_after other = true
+
+abbrev pub first_after : ItemKind → Bool → Bool
+first_after (item.Token k) first = false
+first_after item.NewLine first = true
+first_after other first = first
+
 module _ (cs : List Character) where
   -- where the characters from one place up to another begin and end in the text as it is given
   abbrev pub begins : ℕ → ℕ
@@ -39,16 +49,6 @@ module _ (cs : List Character) where
   abbrev pub tokens_by : ItemKind → Item → Bool → Bool → List Token
   tokens_by (item.Token k) it space first = token_of k it space first ∷ []
   tokens_by other it space first = []
-
-  -- white space or a comment is the last thing after this item, and no token is on its line
-  abbrev pub space_after : ItemKind → Bool
-  space_after (item.Token k) = false
-  space_after other = true
-
-  abbrev pub first_after : ItemKind → Bool → Bool
-  first_after (item.Token k) first = false
-  first_after item.NewLine first = true
-  first_after other first = first
 
   abbrev pub tokens_of : Bool → Bool → List Item → List Token
   tokens_of space first [] = []

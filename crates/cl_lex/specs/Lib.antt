@@ -1,6 +1,9 @@
 pub mod Bytes
 pub mod Source
+pub mod Plain
+pub mod Held
 pub mod Spelling
 pub mod Punctuators
 pub mod Items
 pub mod Lexing
+pub mod Order

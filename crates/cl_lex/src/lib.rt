@@ -2,4 +2,20 @@
 #![tactic(auto)]
 
 mod bytes;
+mod comment;
 mod item;
+mod laws;
+mod next;
+mod pieces;
+mod punctuator;
+mod quoted;
+mod scan;
+mod source;
+#[cfg(test)]
+mod source_tests;
+#[cfg(test)]
+mod tests;
+mod tokens;
+
+pub use laws::{one_lexing, tokens_in_order};
+pub use tokens::lex;

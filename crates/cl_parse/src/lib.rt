@@ -5,8 +5,10 @@ mod item;
 mod keywords;
 mod laws;
 mod parse;
+mod token;
 
 pub use item::Item;
 pub use keywords::is_keyword;
 pub use laws::one_item_list;
 pub use parse::items;
+pub use token::{span_at, text_at};

@@ -1,23 +1,20 @@
-//! Cuts a text's tokens into its items.
+//! Cuts a list of tokens into its items.
 
 ghost use Rattle.std.specs.Prelude.{◌≡◌, ◌<◌, ◌≤◌, ◌+◌, ◌^◌, length, IfOk, true};
-ghost use Rattle.cl_lex.specs.Lexing.{Lexes};
-ghost use Rattle.cl_lex.specs.Tokens.{token_at};
 ghost use Rattle.cl_parse.specs.Items.{EndsBad, IsItem, ItemsOf, is_declaration, is_free_name, is_int, is_semicolon, item_end};
 
 use crate::item::Item;
 use crate::keywords::is_keyword;
-use cl_base::{List, Mem, Memory};
-use cl_lex::{Kind, Token, spelling, token_at};
+use crate::token::{is_ident_at, text_at};
+use cl_base::{List, Mem, Memory, PpToken};
 use std::alloc::Global;
 
 /// The most tokens that have their numbers: 2^32 - 1.
 const MOST: usize = 0xffff_ffff;
 
-/// The items of a text of these tokens, in order. 2^32 tokens or more are want of memory.
-pub fn items(alloc: Global, text: &[u8], tokens: &[Token]) -> Mem<List<Item>>
-    requires { Lexes text.now tokens.now }
-    ensures { IfOk result (λ items. ItemsOf text.now tokens.now items) }
+/// The items of these tokens, in order. 2^32 tokens or more are want of memory.
+pub fn items(alloc: Global, tokens: &[PpToken]) -> Mem<List<Item>>
+    ensures { IfOk result (λ items. ItemsOf tokens.now items) }
 {
     if tokens.len() > MOST {
         return Err(Memory);
@@ -25,7 +22,7 @@ pub fn items(alloc: Global, text: &[u8], tokens: &[Token]) -> Mem<List<Item>>
     let mut items = List::new(alloc);
     let mut at = 0;
     while at < tokens.len() {
-        let item = next_item(text, tokens, at);
+        let item = next_item(tokens, at);
         items.push(item)?;
         at = item_end(item);
     }
@@ -43,29 +40,27 @@ fn item_end(item: Item) -> usize
 }
 
 /// The item that begins with this token.
-fn next_item(text: &[u8], tokens: &[Token], at: usize) -> Item
-    requires lexes { Lexes text.now tokens.now }
+fn next_item(tokens: &[PpToken], at: usize) -> Item
     requires room { length tokens.now < 2 ^ 32 }
     requires within { at < length tokens.now }
-    ensures item { IsItem text.now tokens.now at result }
+    ensures item { IsItem tokens.now at result }
     ensures within { (at < item_end result) × (item_end result ≤ length tokens.now) }
 {
-    if is_declaration(text, tokens, at) {
+    if is_declaration(tokens, at) {
         Item::Proper(at as u32, (at + 3) as u32)
     } else {
-        Item::Bad(at as u32, past_bad(text, tokens, at) as u32)
+        Item::Bad(at as u32, past_bad(tokens, at) as u32)
     }
 }
 
 /// Where the bad item ends that begins with this token.
-fn past_bad(text: &[u8], tokens: &[Token], at: usize) -> usize
-    requires lexes { Lexes text.now tokens.now }
+fn past_bad(tokens: &[PpToken], at: usize) -> usize
     requires room { length tokens.now < 2 ^ 32 }
     requires within { at < length tokens.now }
-    ensures { EndsBad text.now tokens.now at result }
+    ensures { EndsBad tokens.now at result }
 {
     let mut last = at;
-    while last < tokens.len() && !is_semicolon(text, tokens, last) {
+    while last < tokens.len() && !is_semicolon(tokens, last) {
         last += 1;
     }
     if last < tokens.len() { last + 1 } else { last }
@@ -73,41 +68,32 @@ fn past_bad(text: &[u8], tokens: &[Token], at: usize) -> usize
 
 /// Whether a declaration begins with this token.
 #[tactic(auto, unfolding(crate::specs::Items::is_declaration))]
-fn is_declaration(text: &[u8], tokens: &[Token], at: usize) -> bool
-    requires lexes { Lexes text.now tokens.now }
+fn is_declaration(tokens: &[PpToken], at: usize) -> bool
     requires room { at < 2 ^ 32 }
-    ensures value { result ≡ is_declaration text.now tokens.now at }
+    ensures value { result ≡ is_declaration tokens.now at }
     ensures within { result ≡ true → at + 3 ≤ length tokens.now }
 {
-    is_int(text, tokens, at)
-        && is_free_name(text, tokens, at + 1)
-        && is_semicolon(text, tokens, at + 2)
+    is_int(tokens, at) && is_free_name(tokens, at + 1) && is_semicolon(tokens, at + 2)
 }
 
 /// Whether this token is the word `int`.
-fn is_int(text: &[u8], tokens: &[Token], at: usize) -> bool
-    requires { Lexes text.now tokens.now }
-    ensures { result ≡ is_int text.now (token_at tokens.now at) }
+fn is_int(tokens: &[PpToken], at: usize) -> bool
+    ensures { result ≡ is_int tokens.now at }
 {
-    spelling(text, tokens, at) == b"int".as_slice()
+    text_at(tokens, at) == b"int".as_slice()
 }
 
 /// Whether this token is a name that is no keyword.
-fn is_free_name(text: &[u8], tokens: &[Token], at: usize) -> bool
-    requires { Lexes text.now tokens.now }
-    ensures { result ≡ is_free_name text.now (token_at tokens.now at) }
+fn is_free_name(tokens: &[PpToken], at: usize) -> bool
+    ensures { result ≡ is_free_name tokens.now at }
 {
-    match token_at(tokens, at).kind {
-        Kind::Ident => !is_keyword(spelling(text, tokens, at)),
-        Kind::Other => false,
-    }
+    is_ident_at(tokens, at) && !is_keyword(text_at(tokens, at))
 }
 
 /// Whether this token is a `;`.
-fn is_semicolon(text: &[u8], tokens: &[Token], at: usize) -> bool
-    requires { Lexes text.now tokens.now }
-    ensures value { result ≡ is_semicolon text.now (token_at tokens.now at) }
+fn is_semicolon(tokens: &[PpToken], at: usize) -> bool
+    ensures value { result ≡ is_semicolon tokens.now at }
     ensures within { result ≡ true → at < length tokens.now }
 {
-    spelling(text, tokens, at) == b";".as_slice()
+    text_at(tokens, at) == b";".as_slice()
 }

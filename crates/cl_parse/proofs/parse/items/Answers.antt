@@ -3,4 +3,4 @@ use Rattle.cl_parse.specs.Items.{ItemTiles}
 use Rattle.cl_parse.proofs.parse.items.Goals as goal
 
 pub returns : goal.returns
-returns c = subst (ItemTiles c.args.text.now c.args.tokens.now 0) (append-nil _) (c.loop-at.invariant.tiles [] (omega arith))
+returns c = subst (ItemTiles c.args.tokens.now 0) (append-nil _) (c.loop-at.invariant.tiles [] (omega arith))

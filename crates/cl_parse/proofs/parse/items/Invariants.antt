@@ -6,7 +6,7 @@ use Rattle.cl_parse.proofs.parse.items.Given as goal
 abbrev pub invariant-loop-at : goal.invariant-loop-at
 invariant-loop-at l = record {
   within : l.at ≤ length l.tokens;
-  tiles : (rest : List Item) → ItemTiles l.text l.tokens l.at rest → ItemTiles l.text l.tokens 0 (l.items ++ rest);
+  tiles : (rest : List Item) → ItemTiles l.tokens l.at rest → ItemTiles l.tokens 0 (l.items ++ rest);
 }
 
 abbrev pub decreases-loop-at : goal.decreases-loop-at

@@ -1,0 +1,160 @@
+//! The characters of a text after translation phases 1 and 2 (N1570 5.1.1.2).
+
+ghost use Rattle.std.specs.Prelude.{◌≡◌, ◌≤◌, ◌<◌, ◌^◌, ◌↔◌, ◌++◌, ◌∷◌, [], IfOk, OnOk, IsTrue, Some, None, length};
+ghost use Rattle.cl_lex.specs.Source.{characters, values};
+ghost use Rattle.cl_lex.specs.Lexing.{begins, ends};
+ghost use Rattle.cl_lex.specs.Held.{IsHeld};
+ghost use Rattle.cl_lex.specs.Plain.{IsPlain, is_plain_at, is_special};
+
+use crate::pieces::{is_splice, splice_width, value_at, width_at};
+use cl_base::Mem;
+use std::alloc::Global;
+use std::marker::Model;
+
+/// The characters of a text. The text is at most 2^28 bytes long.
+#[derive(Drop)]
+pub struct Source<'a> {
+    text: &'a [u8],
+    joined: Option<Joined>,
+}
+
+/// The characters of a text in which some are written with several bytes: their values, and where each begins.
+#[derive(Drop)]
+struct Joined {
+    values: Vec<u8>,
+    starts: Vec<u32>,
+}
+
+impl<'a> Model for Source<'a> {
+    ghost use Rattle.std.specs.Prelude.{List, ℕ};
+    ghost use Rattle.cl_lex.specs.Held.{IsHeld};
+
+    ghost Value = { List ℕ };
+
+    ghost view = { λ s. s.text.now };
+
+    ghost invariant = { λ s. IsHeld s.text.now s.joined };
+}
+
+impl<'a> Source<'a> {
+    /// The characters of the text, after translation phases 1 and 2.
+    pub fn new(alloc: Global, text: &'a [u8]) -> Mem<Source<'a>>
+        requires { length text.now ≤ 2 ^ 28 }
+        ensures { IfOk result (λ s. s ≡ text.now) }
+    {
+        if is_plain(text) {
+            return Ok(Source { text, joined: None });
+        }
+        let joined = join(alloc, text)?;
+        Ok(Source {
+            text,
+            joined: Some(joined),
+        })
+    }
+
+    /// The characters' values: a line end is 10.
+    pub fn chars(&self) -> &[u8]
+        ensures value { result.now ≡ values (characters self.now) }
+        ensures all { length result.now ≡ length (characters self.now) }
+        ensures count { length result.now ≤ length self.now }
+        ensures short { length self.now ≤ 2 ^ 28 }
+    {
+        match &self.joined {
+            None => self.text,
+            Some(joined) => joined.values.as_slice(),
+        }
+    }
+
+    /// The byte of the text at which a character begins.
+    pub fn begins(&self, at: usize) -> u32
+        requires { at < length (characters self.now) }
+        ensures value { result ≡ begins (characters self.now) at }
+        ensures within { result < length self.now }
+        ensures short { length self.now ≤ 2 ^ 28 }
+    {
+        match &self.joined {
+            None => at as u32,
+            Some(joined) => joined.starts[at],
+        }
+    }
+
+    /// The byte of the text at which the characters before `to` end.
+    pub fn ends(&self, to: usize) -> u32
+        requires some { 0 < to }
+        requires within { to ≤ length (characters self.now) }
+        ensures value { result ≡ ends (characters self.now) to }
+        ensures within { result ≤ length self.now }
+        ensures short { length self.now ≤ 2 ^ 28 }
+    {
+        let last = self.begins(to - 1);
+        last + width_at(self.text, last as usize) as u32
+    }
+}
+
+impl Joined {
+    /// Adds a character that begins at this byte.
+    fn add(&mut self, value: u8, start: u32) -> Mem<()>
+        ensures values { OnOk result (self.new.values.items ≡ self.old.values.items ++ value ∷ []) }
+        ensures starts { OnOk result (self.new.starts.items ≡ self.old.starts.items ++ start ∷ []) }
+    {
+        self.values.push(value)?;
+        self.starts.push(start)?;
+        Ok(())
+    }
+}
+
+/// Whether the byte may be no character by itself: CR, `?`, a backslash, or the first of a byte order mark.
+fn is_special(c: u8) -> bool
+    ensures { result ≡ is_special c }
+{
+    matches!(c, b'\r' | b'?' | b'\\' | 0xef)
+}
+
+/// Whether the byte here is a character by itself.
+fn is_plain_at(text: &[u8], at: usize) -> bool
+    requires within { at < length text.now }
+    requires small { at < 2 ^ 31 }
+    ensures { result ≡ is_plain_at text.now at }
+{
+    if !is_special(text[at]) {
+        return true;
+    }
+    value_at(text, at) == text[at] && width_at(text, at) == 1 && !is_splice(text, at)
+}
+
+/// Whether each byte of the text is a character by itself.
+fn is_plain(text: &[u8]) -> bool
+    requires { length text.now ≤ 2 ^ 28 }
+    ensures { IsTrue result ↔ IsPlain text.now }
+{
+    for at in 0..text.len() {
+        if !is_plain_at(text, at) {
+            return false;
+        }
+    }
+    true
+}
+
+/// The characters of a text, and where they begin.
+fn join(alloc: Global, text: &[u8]) -> Mem<Joined>
+    requires { length text.now ≤ 2 ^ 28 }
+    ensures { IfOk result (λ joined. IsHeld text.now (Some joined)) }
+{
+    let mut joined = Joined {
+        values: Vec::with_capacity(alloc, text.len())?,
+        starts: Vec::with_capacity(alloc, text.len())?,
+    };
+    let mut at = 0;
+    while at < text.len() {
+        if is_plain_at(text, at) {
+            joined.add(text[at], at as u32)?;
+            at += 1;
+        } else if is_splice(text, at) {
+            at += splice_width(text, at);
+        } else {
+            joined.add(value_at(text, at), at as u32)?;
+            at += width_at(text, at);
+        }
+    }
+    Ok(joined)
+}
