@@ -3,6 +3,7 @@
 #![tactic(auto)]
 
 mod answer;
+mod characters;
 mod duplicate;
 mod headers;
 mod list;
@@ -17,6 +18,7 @@ mod text;
 mod token;
 
 pub use answer::{Answer, Symbol};
+pub use characters::char_len;
 pub use duplicate::Duplicate;
 pub use headers::{HeaderSource, Read};
 pub use list::List;
