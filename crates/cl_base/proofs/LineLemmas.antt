@@ -1,0 +1,1 @@
+-- Lines and positions of a text.
