@@ -1,1 +1,0 @@
--- Lines and positions of a text.
