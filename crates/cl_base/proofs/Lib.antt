@@ -1,3 +1,4 @@
 pub mod CharacterLemmas
 pub mod StartLemmas
 pub mod UnitLemmas
+pub mod PlaceLemmas

@@ -2,13 +2,15 @@
 use Rattle.std.proofs.Common.{◌≡◌, ℕ, zero, suc, ◌+◌, ◌-◌, ◌<◌, ◌≤◌, ◌≢◌, ◌⊎◌, inl, inr, List, [], ◌∷◌, ◌++◌, Bool, true, false, ◌||◌, ◌&&◌, not, eqb, leb, ltb, cond, length, get_or, drop, map, filter, refl, sym, ap, ◌∙◌, subst, ⊎_elim, arith, rules}
 use Rattle.std.specs.Prelude.{count_by}
 use Rattle.std.specs.List.{range_with_len, prefix_len}
-use Rattle.std.proofs.lemmas.Bool.{cases_lt, cases_eq, cases_Bool, both_ways, cond-true, cond-false, not-true, not-false, not_from_true, not_from_false, or_from, or_parts, or_cases, and_parts, and_from, and_cases, eqb-true, eqb-false, eq-eqb, ne_eqb, or_left, or_right, and_left, and_right}
-use Rattle.std.proofs.lemmas.List.{map-id, map-append, length_push, get_or_push, get_or_append_left, length-drop, get_or-drop, append-nil}
+use Rattle.std.specs.List.Sorted.{IsPartitionedBy, IsPartitionPoint}
+use Rattle.std.proofs.lemmas.Bool.{cases_lt, cases_eq, cases_Bool, both_ways, cond-true, cond-false, not-true, not-false, not_from_true, not_from_false, or_from, or_parts, or_cases, and_parts, and_from, and_cases, leb-true, leb-false, le-leb, eqb-true, eqb-false, eq-eqb, ne_eqb, or_left, or_right, and_left, and_right}
+use Rattle.std.proofs.lemmas.List.{map-id, map-append, length_push, get_or_push, get_or_append_left, length-drop, get_or-drop, get_or_past, get_or_default, append-nil}
 use Rattle.std.proofs.lemmas.List.FromFn.{map-range_with_len_more}
 use Rattle.std.proofs.lemmas.List.Sums.{sum_by_push, prefix_len-le-length, prefix_len_is, prefix_len_passes, prefix_len_stops}
 use Rattle.std.proofs.lemmas.List.Elements.{filter-append}
 use Rattle.std.proofs.lemmas.Bool.Decides.{nat_tests}
 use Rattle.cl_base.specs.Lines.{is_break, ends_line, line_at, line_starts, line_end}
+use Rattle.cl_base.specs.Walks.{Solid, NoEnd, IsFirstBreak, IsNextEnd}
 
 pub range_more : (from n : ℕ) → range_with_len from (n + 1) ≡ range_with_len from n ++ (from + n) ∷ []
 range_more from n = sym (map-id (range_with_len from (n + 1))) ∙ (map-range_with_len_more (λ x. x) from n (from + n) refl ∙ ap (λ (xs : List ℕ). xs ++ (from + n) ∷ []) (map-id (range_with_len from n)))
@@ -168,10 +170,6 @@ grows_by text n (suc d) =
 pub grows : (text : List ℕ) (n m : ℕ) → n ≤ m → Grows text n m
 grows text n m h = let e : n + (m - n) ≡ m = omega arith in subst (λ (k : ℕ). Grows text n k) e (grows_by text n (m - n))
 
--- no line end is complete from one offset up to another
-abbrev pub NoEnd : List ℕ → ℕ → ℕ → Type 0
-NoEnd text from to = (i : ℕ) → from ≤ i → i < to → ends_line text i ≡ false
-
 -- the last start up to n, with no line end after it
 last_none : (text : List ℕ) (n : ℕ) → NoEnd text (get_or (starts_to text n) (line_at text n) 0) n
 last_none text zero = λ i l h. absurd (omega arith)
@@ -239,10 +237,6 @@ starts_stay text n m l h =
 
 -- ---- the end of a line
 
--- neither LF nor CR from one offset up to another
-abbrev pub Solid : List ℕ → ℕ → ℕ → Type 0
-Solid text from to = (i : ℕ) → from ≤ i → i < to → is_break (get_or text i 0) ≡ false
-
 pub record EndOf (text : List ℕ) (start «end» : ℕ) : Type 0 where
   pub after : start ≤ «end»
   pub within : «end» ≤ length text
@@ -280,3 +274,92 @@ end_unique text start a b h k =
 
 pub end_is : (text : List ℕ) (start «end» : ℕ) → EndOf text start «end» → line_end text start ≡ «end»
 end_is text start «end» h = let a : start ≤ «end» = h.after in let w : «end» ≤ length text = h.within in end_unique text start (line_end text start) «end» (end_of text start (omega arith)) h
+
+-- ---- the next line end
+
+pub solid_none : (text : List ℕ) (from to : ℕ) → Solid text from to → NoEnd text from to
+solid_none text from to h = λ i l m. solid_ends_none text i (h i l m)
+
+pub next_from : (text : List ℕ) (at place next : ℕ) → IsFirstBreak text at place → IsNextEnd text place next → IsNextEnd text at next
+next_from text at place next h k =
+    let a : at ≤ place = h.after in
+    let b : place < next = k.after in
+    record {
+      after = omega arith;
+      within = k.within;
+      none = λ i l m. ⊎_elim (λ (low : i < place). solid_ends_none text i (h.solid i l low)) (λ (high : place ≤ i). k.none i high m) (cases_lt i place);
+      ends = k.ends;
+    }
+
+cr_no_end : (text : List ℕ) (i : ℕ) → get_or text i 0 ≡ 13 → get_or text (i + 1) 0 ≡ 10 → ends_line text i ≡ false
+unfolding ends_line
+cr_no_end text i h k = grind (arith, nat_tests)
+
+lone_ends : (text : List ℕ) (i : ℕ) → is_break (get_or text i 0) ≡ true → (get_or text i 0 ≡ 13 → get_or text (i + 1) 0 ≡ 10 → ⊥) → ends_line text i ≡ true
+lone_ends text i h n = ⊎_elim (λ t. t) (λ f. absurd (let cr = cr_before_lf text i h f in n cr.0 cr.1)) (cases_Bool (ends_line text i))
+
+pub past_cr_lf : (text : List ℕ) (place : ℕ) → get_or text place 0 ≡ 13 → get_or text (place + 1) 0 ≡ 10 → IsNextEnd text place (place + 2)
+past_cr_lf text place cr lf =
+    let e : place + 2 - 1 ≡ place + 1 = omega arith in
+    let in_text : place + 1 < length text = ⊎_elim (λ l. l) (λ (p : length text ≤ place + 1). absurd (omega (arith, get_or_past text (place + 1) 0 p))) (cases_lt (place + 1) (length text)) in
+    record {
+      after = omega arith;
+      within = omega arith;
+      none = λ i l m. let i_is : i ≡ place = omega arith in subst (λ (k : ℕ). ends_line text k ≡ false) (sym i_is) (cr_no_end text place cr lf);
+      ends = subst (λ (k : ℕ). ends_line text k ≡ true) (sym e) (ends_lf text (place + 1) lf);
+    }
+
+pub past_one : (text : List ℕ) (place : ℕ) → place < length text → is_break (get_or text place 0) ≡ true → (get_or text place 0 ≡ 13 → get_or text (place + 1) 0 ≡ 10 → ⊥) → IsNextEnd text place (place + 1)
+past_one text place l b apart =
+    let e : place + 1 - 1 ≡ place = omega arith in
+    record {
+      after = omega arith;
+      within = omega arith;
+      none = λ i low high. absurd (omega arith);
+      ends = subst (λ (k : ℕ). ends_line text k ≡ true) (sym e) (lone_ends text place b apart);
+    }
+
+pub starts_next : (text : List ℕ) (at next : ℕ) → IsNextEnd text at next → starts_to text next ≡ starts_to text at ++ next ∷ []
+starts_next text at next h =
+    let a : at < next = h.after in
+    let e : next - 1 + 1 ≡ next = omega arith in
+    let s : starts_to text (next - 1 + 1) ≡ starts_to text (next - 1) ++ (next - 1 + 1) ∷ [] = starts_yes text (next - 1) h.ends in
+    let t : starts_to text (next - 1) ≡ starts_to text at = starts_stay text at (next - 1) (omega arith) h.none in
+    subst (λ (n : ℕ). starts_to text n ≡ starts_to text at ++ n ∷ []) e (s ∙ ap (λ (xs : List ℕ). xs ++ (next - 1 + 1) ∷ []) t)
+
+pub starts_end : (text : List ℕ) (at : ℕ) → at ≤ length text → NoEnd text at (length text) → starts_to text at ≡ line_starts text
+starts_end text at l h = sym (starts_all text ∙ starts_stay text at (length text) l h)
+
+-- ---- a look-up of a line by its start
+
+-- the starts at or before an offset come first
+pub starts_parted : (text xs : List ℕ) (offset : ℕ) → xs ≡ line_starts text → offset ≤ length text → IsPartitionedBy (λ start. leb start offset) xs
+starts_parted text xs offset e h = subst (λ (ys : List ℕ). IsPartitionedBy (λ start. leb start offset) ys) (sym e) (λ i j d l m t. ⊎_elim
+    (λ (late : line_at text offset < j). absurd (
+      let above : offset < get_or (line_starts text) j 0 = start_after text offset j h late m in
+      let at : get_or (line_starts text) j d ≤ offset = leb-true (get_or (line_starts text) j d) offset t in
+      omega (arith, get_or_default (line_starts text) j 0 d m)))
+    (λ (early : j ≤ line_at text offset).
+      let before : get_or (line_starts text) i 0 ≤ offset = start_before text offset i h (omega arith) in
+      le-leb (get_or (line_starts text) i d) offset (omega (arith, get_or_default (line_starts text) i 0 d (omega arith))))
+    (cases_lt (line_at text offset) j))
+
+-- so many starts are at or before an offset as its line, from 0, and one more
+pub line_by_point : (text xs : List ℕ) (offset after : ℕ) → xs ≡ line_starts text → offset ≤ length text → after ≤ length xs → IsPartitionPoint (λ start. leb start offset ≡ true) (λ start. leb start offset ≡ false) xs after → after ≡ line_at text offset + 1
+line_by_point text xs offset after e h l point =
+    let long : length xs ≡ length (line_starts text) = ap length e in
+    let in_list : line_at text offset < length (line_starts text) = line_in text offset h in
+    let at_line : (k : ℕ) → get_or xs k 0 ≡ get_or (line_starts text) k 0 = λ k. ap (λ (ys : List ℕ). get_or ys k 0) e in
+    ⊎_elim
+    (λ (few : after < line_at text offset + 1). absurd (
+      let past : offset < get_or xs after 0 = leb-false (get_or xs after 0) offset (point.1 after 0 (omega arith) (omega arith)) in
+      let before : get_or (line_starts text) after 0 ≤ offset = start_before text offset after h (omega arith) in
+      omega (arith, at_line after)))
+    (λ (enough : line_at text offset + 1 ≤ after). ⊎_elim
+      (λ (many : line_at text offset + 1 < after). absurd (
+        let before : get_or xs (line_at text offset + 1) 0 ≤ offset = leb-true (get_or xs (line_at text offset + 1) 0) offset (point.0 (line_at text offset + 1) 0 (omega arith) many) in
+        let past : offset < get_or (line_starts text) (line_at text offset + 1) 0 = start_after text offset (line_at text offset + 1) h (omega arith) (omega arith) in
+        omega (arith, at_line (line_at text offset + 1))))
+      (λ le. omega arith)
+      (cases_lt (line_at text offset + 1) after))
+    (cases_lt after (line_at text offset + 1))

@@ -9,7 +9,8 @@ use Rattle.std.proofs.Math.Nat.{min-eq_left, min-eq_right}
 use Rattle.cl_base.specs.Characters.{char_len}
 use Rattle.cl_base.specs.Lines.{is_break, ends_line, char_start, units_at, units, line_end, greatest, is_reached}
 use Rattle.cl_base.proofs.CharacterLemmas.{IsTail, GoesOn, tail_within, within_text, none_within, char_fits, char_small, char_len_most, start_within, start_cases}
-use Rattle.cl_base.proofs.StartLemmas.{range_more, ends_small, IsStart, Solid, EndOf, end_of, end_is}
+use Rattle.cl_base.proofs.StartLemmas.{range_more, ends_small, IsStart, EndOf, end_of, end_is}
+use Rattle.cl_base.specs.Walks.{step_bytes, step_units, Solid, Walked}
 
 -- ---- units
 
@@ -38,12 +39,6 @@ pub units_rise : (text : List ℕ) (from to more : ℕ) → from ≤ to → to �
 units_rise text from to more h l = let e : to + (more - to) ≡ more = omega arith in subst (λ (n : ℕ). units text from to ≤ units text from n) e (units_rise_by text from to (more - to) h)
 
 -- ---- a step over one character, or over one byte of none
-
-pub step_bytes : List ℕ → ℕ → ℕ
-step_bytes text at = max 1 (char_len text at)
-
-pub step_units : List ℕ → ℕ → ℕ
-step_units text at = cond (eqb (char_len text at) 4) 2 1
 
 pub step_bytes_is : (text : List ℕ) (at : ℕ) → step_bytes text at ≡ max 1 (char_len text at)
 unfolding step_bytes
@@ -164,15 +159,6 @@ step_solid text at h i l m = ⊎_elim
 
 -- ---- a walk along a line
 
--- so far a walk came, over whole characters, with this many units
-pub record Walked (text : List ℕ) (start at count : ℕ) : Type 0 where
-  pub after : start ≤ at
-  pub within : at ≤ length text
-  pub own : char_start text at ≡ at
-  pub solid : Solid text start at
-  pub counts : count ≡ units text start at
-  pub most : count ≤ at - start
-
 pub walked_none : (text : List ℕ) (start : ℕ) → start ≤ length text → char_start text start ≡ start → Walked text start start 0
 walked_none text start h own = record { after = omega arith; within = h; own = own; solid = λ i l m. absurd (omega arith); counts = sym (units_none text start); most = omega arith }
 
@@ -190,7 +176,3 @@ walked_more text start at count h l solid =
       counts = omega (arith, units_step text start at after h.own);
       most = omega (arith, s.1);
     }
-
--- why a walk up to `to` with room for so many units goes no further
-abbrev pub Stops : List ℕ → ℕ → ℕ → ℕ → Type 0
-Stops text at to room = (at ≡ to) ⊎ ((at < to) × ((is_break (get_or text at 0) ≡ true) ⊎ ((to < at + step_bytes text at) ⊎ (room < step_units text at))))
