@@ -4,9 +4,12 @@
 
 mod answer;
 mod characters;
+mod cursor;
 mod duplicate;
 mod headers;
 mod laws;
+#[cfg(test)]
+mod line_tests;
 mod lines;
 mod list;
 mod memory;
@@ -22,6 +25,7 @@ mod walk;
 
 pub use answer::{Answer, Symbol};
 pub use characters::char_len;
+pub use cursor::Cursor;
 pub use duplicate::Duplicate;
 pub use headers::{HeaderSource, Read};
 pub use laws::found_back;
