@@ -11,10 +11,10 @@ use Rattle.cl_base.proofs.CharacterLemmas.{GoesOn, none_within, start_within, st
 use Rattle.cl_base.proofs.StartLemmas.{ends_lf, cr_before_lf, LineOf, line_of, line_in, StartOf, start_in, EndOf, end_of, end_is}
 use Rattle.cl_base.proofs.UnitLemmas.{units_rise, units_step, step_bytes_is, step_units_some, own_from, step_next, step_within, break_own, past_own, start_own, walked_more}
 
-min_first : (a b : ℕ) → a ≤ b → min a b ≡ a
+pub min_first : (a b : ℕ) → a ≤ b → min a b ≡ a
 min_first a b h = omega arith
 
-min_second : (a b : ℕ) → b ≤ a → min a b ≡ b
+pub min_second : (a b : ℕ) → b ≤ a → min a b ≡ b
 min_second a b h = omega arith
 
 -- a walk stays in its line
@@ -114,7 +114,7 @@ place_in text position start place l e g =
 
 -- ---- a position leads back to its offset
 
-own_twice : (text : List ℕ) (offset : ℕ) → char_start text (char_start text offset) ≡ char_start text offset
+pub own_twice : (text : List ℕ) (offset : ℕ) → char_start text (char_start text offset) ≡ char_start text offset
 own_twice text offset = ⊎_elim
     (λ (e : char_start text offset ≡ offset). ap (char_start text) e)
     (λ (g : GoesOn text (char_start text offset) offset). own_from text (char_start text offset) (λ start h.
@@ -123,7 +123,7 @@ own_twice text offset = ⊎_elim
       omega (arith, none_within text start (char_start text offset) h.after h.before)))
     (start_cases text offset)
 
-start_order : (text : List ℕ) (start offset : ℕ) → char_start text start ≡ start → start ≤ offset → (start ≤ char_start text offset) × (char_start text offset ≤ offset)
+pub start_order : (text : List ℕ) (start offset : ℕ) → char_start text start ≡ start → start ≤ offset → (start ≤ char_start text offset) × (char_start text offset ≤ offset)
 start_order text start offset own l = ⊎_elim
     (λ (e : char_start text offset ≡ offset). (omega arith, omega arith))
     (λ (g : GoesOn text (char_start text offset) offset).
@@ -196,7 +196,7 @@ looked_up text xs offset line e h l =
     let here : LookedUp text (line_starts text) offset (line_at text offset) = record { in_list = line_in text offset h; low = of_line.within; own = start_own text (line_start text (line_at text offset)) of_line.is; start = refl } in
     subst (λ (n : ℕ). LookedUp text xs offset n) (sym l) (subst (λ (ys : List ℕ). LookedUp text ys offset (line_at text offset)) (sym e) here)
 
-same_position : (line character : ℕ) (position : Position) → line ≡ position.line → character ≡ position.character → record { line = line; character = character } ≡ position
+pub same_position : (line character : ℕ) (position : Position) → line ≡ position.line → character ≡ position.character → record { line = line; character = character } ≡ position
 same_position line character position e f = λ i. record { line = e i; character = f i }
 
 pub position_found : (text xs : List ℕ) (offset line at count : ℕ) → LookedUp text xs offset line → line ≡ line_at text offset → Walked text (get_or xs line 0) at count → offset ≤ length text → length text < 2 ^ 32 → Stops text at offset (2 ^ 32 - 1 - count) → record { line = line; character = count } ≡ position_at text offset

@@ -291,7 +291,7 @@ next_from text at place next h k =
       ends = k.ends;
     }
 
-cr_no_end : (text : List ℕ) (i : ℕ) → get_or text i 0 ≡ 13 → get_or text (i + 1) 0 ≡ 10 → ends_line text i ≡ false
+pub cr_no_end : (text : List ℕ) (i : ℕ) → get_or text i 0 ≡ 13 → get_or text (i + 1) 0 ≡ 10 → ends_line text i ≡ false
 unfolding ends_line
 cr_no_end text i h k = grind (arith, nat_tests)
 

@@ -1,8 +1,9 @@
 -- A walk along a line, a character at a time.
 use Rattle.std.specs.Prelude.{◌≡◌, ℕ, ◌+◌, ◌-◌, ◌<◌, ◌≤◌, ◌⊎◌, max, List, Bool, true, false, ◌==◌, length, slice_index, if◌then◌else◌}
 use Rattle.cl_base.specs.declared.walk.Step.{Step}
+use Rattle.cl_base.specs.declared.cursor.Here.{Here}
 use Rattle.cl_base.specs.Characters.{char_len}
-use Rattle.cl_base.specs.Lines.{is_break, ends_line, char_start, units}
+use Rattle.cl_base.specs.Lines.{is_break, ends_line, IsWithinEnd, char_start, units, line_at, line_start}
 
 -- the bytes of the character at an offset, or one byte where none begins there
 unfoldable pub step_bytes : List ℕ → ℕ → ℕ
@@ -55,3 +56,17 @@ pub record Goes (text : List ℕ) (at to room : ℕ) (step : Step) : Type 0 wher
   pub units : step.units ≡ step_units text at
   pub within : at + step_bytes text at ≤ to
   pub fits : step_units text at ≤ room
+
+-- an offset between two characters, and not between CR and LF, with its position
+pub record IsHere (text : List ℕ) (at line character : ℕ) : Type 0 where
+  pub within : at ≤ length text
+  pub own : char_start text at ≡ at
+  pub apart : ¬ IsWithinEnd text at
+  pub line_is : line ≡ line_at text at
+  pub character_is : character ≡ units text (line_start text (line_at text at)) at
+
+-- the next such offset, up to `to`
+pub record Leaps (text : List ℕ) (at to : ℕ) (next : Here) : Type 0 where
+  pub after : at < next.at
+  pub before : next.at ≤ to
+  pub is : IsHere text next.at next.position.line next.position.character

@@ -114,7 +114,7 @@ fn next_break(text: &[u8], at: usize) -> Option<usize>
 }
 
 /// Where the line end is complete that begins at this LF or CR.
-fn past_end(text: &[u8], place: usize) -> usize
+pub(crate) fn past_end(text: &[u8], place: usize) -> usize
     requires within { place < length text.now }
     requires breaks { is_break (slice_index text.now place) ≡ true }
     ensures { IsNextEnd text.now place result }
