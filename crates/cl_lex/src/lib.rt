@@ -17,5 +17,5 @@ mod source_tests;
 mod tests;
 mod tokens;
 
-pub use laws::{one_lexing, tokens_in_order};
+pub use laws::one_lexing;
 pub use tokens::lex;

@@ -3,6 +3,7 @@
 ghost use Rattle.std.specs.Prelude.{◌≡◌, ◌<◌, ◌≤◌, ◌+◌, ◌++◌, length, slice_index, option_to_list, IfOk, OnOk};
 ghost use Rattle.cl_lex.specs.Source.{characters, values};
 ghost use Rattle.cl_lex.specs.Items.{is_hash, line_after, line_by, takes_header};
+ghost use Rattle.cl_lex.specs.Order.{AreInOrder};
 ghost use Rattle.cl_lex.specs.Lexing.{Lexes, fault_of, faults_by, first_after, space_after, stray_faults, token_of, tokens_by};
 
 use crate::bytes::is_quote;
@@ -28,7 +29,8 @@ pub struct Before {
 /// without an end (its first two characters), a quote that nothing closes on its line, a byte of no character, and a
 /// null character (each the token's own bytes). More than 268,435,456 bytes are want of memory.
 pub fn lex(alloc: Global, text: &[u8]) -> Mem<Lexed>
-    ensures { IfOk result (λ lexed. Lexes text.now lexed) }
+    ensures lexes { IfOk result (λ lexed. Lexes text.now lexed) }
+    ensures order { IfOk result (λ lexed. AreInOrder 0 (length text.now) lexed.tokens) }
 {
     if text.len() > MOST {
         return Err(Memory);

@@ -7,21 +7,23 @@ use Rattle.cl_base.specs.declared.answer.Symbol.{Symbol}
 use Rattle.cl_base.specs.contracts.answer.Symbol.{the_row}
 use Rattle.cl_base.specs.declared.answer.Answer.{Answer}
 use Rattle.cl_base.specs.declared.answer.Answer.TheVariants.{Symbols as Listed}
-use Rattle.cl_lex.specs.declared.token.Token.{Token}
+use Rattle.cl_base.specs.declared.token.Lexed.{Lexed}
+use Rattle.cl_base.specs.declared.token.PpToken.{PpToken}
 use Rattle.cl_lex.specs.Lexing.{Lexes}
 use Rattle.cl_parse.specs.declared.item.Item.{Item}
 use Rattle.cl_parse.specs.Items.{ItemsOf}
 use Rattle.cl_query.specs.declared.query.Query.{Query}
 use Rattle.cl_query.specs.declared.query.Query.TheVariants.{Symbols}
+use Rattle.cl_query.specs.Spread.{spread_all}
 use Rattle.cl_query.specs.Symbols.{symbols_in}
 
 -- the symbols of a text are those of its items, which are those of its tokens
 pub record AreSymbolsOf (text : List ℕ) (symbols : List Symbol) : Type 0 where
-  pub tokens : List Token
+  pub lexed : Lexed
   pub items : List Item
-  pub lexes : Lexes text tokens
-  pub parses : ItemsOf text tokens items
-  pub listed : symbols ≡ symbols_in text tokens items
+  pub lexes : Lexes text lexed
+  pub parses : ItemsOf (spread_all lexed.tokens) items
+  pub listed : symbols ≡ symbols_in text (spread_all lexed.tokens) items
 
 -- the answer of a query about the text at a path
 pub AnswerOf : Query → List ℕ → List ℕ → Answer → Type 0
@@ -32,20 +34,21 @@ pub AnswerOf-prop : (kind : Query) (path text : List ℕ) (answer : Answer) → 
 unfolding AnswerOf
 AnswerOf-prop Symbols path text (Listed symbols) = ∥∥₁_prop
 
-pub answer_of_symbols : (path text : List ℕ) (tokens : List Token) (items : List Item) (symbols : List Symbol)
-    → Lexes text tokens → ItemsOf text tokens items → symbols ≡ symbols_in text tokens items → AnswerOf Symbols path text (Listed symbols)
+pub answer_of_symbols : (path text : List ℕ) (lexed : Lexed) (items : List Item) (symbols : List Symbol)
+    → Lexes text lexed → ItemsOf (spread_all lexed.tokens) items → symbols ≡ symbols_in text (spread_all lexed.tokens) items → AnswerOf Symbols path text (Listed symbols)
 unfolding AnswerOf
-answer_of_symbols path text tokens items symbols lexes parses listed =
-    ∣ record { tokens = tokens; items = items; lexes = lexes; parses = parses; listed = listed } ∣₁
+answer_of_symbols path text lexed items symbols lexes parses listed =
+    ∣ record { lexed = lexed; items = items; lexes = lexes; parses = parses; listed = listed } ∣₁
 
 -- where a text has one list of tokens, and they have one list of items, it has one list of symbols
-module _ (one_lex : (text : List ℕ) (xs ys : List Token) → Lexes text xs → Lexes text ys → xs ≡ ys)
-    (one_parse : (text : List ℕ) (tokens : List Token) (xs ys : List Item) → ItemsOf text tokens xs → ItemsOf text tokens ys → xs ≡ ys) where
+module _ (one_lex : (text : List ℕ) (x y : Lexed) → Lexes text x → Lexes text y → x ≡ y)
+    (one_parse : (tokens : List PpToken) (xs ys : List Item) → ItemsOf tokens xs → ItemsOf tokens ys → xs ≡ ys) where
   one_list : (text : List ℕ) (xs ys : List Symbol) → AreSymbolsOf text xs → AreSymbolsOf text ys → xs ≡ ys
   one_list text xs ys a b =
-      let tokens : a.tokens ≡ b.tokens = one_lex text a.tokens b.tokens a.lexes b.lexes in
-      let items : a.items ≡ b.items = one_parse text b.tokens a.items b.items (subst (λ (ts : List Token). ItemsOf text ts a.items) tokens a.parses) b.parses in
-      a.listed ∙ ap (λ (ts : List Token). symbols_in text ts a.items) tokens ∙ ap (symbols_in text b.tokens) items ∙ sym b.listed
+      let lexed : a.lexed ≡ b.lexed = one_lex text a.lexed b.lexed a.lexes b.lexes in
+      let tokens : spread_all a.lexed.tokens ≡ spread_all b.lexed.tokens = ap (λ (l : Lexed). spread_all l.tokens) lexed in
+      let items : a.items ≡ b.items = one_parse (spread_all b.lexed.tokens) a.items b.items (subst (λ (ts : List PpToken). ItemsOf ts a.items) tokens a.parses) b.parses in
+      a.listed ∙ ap (λ (ts : List PpToken). symbols_in text ts a.items) tokens ∙ ap (symbols_in text (spread_all b.lexed.tokens)) items ∙ sym b.listed
 
   pub one_answer_by : (kind : Query) (path text : List ℕ) (x y : Answer) → AnswerOf kind path text x → AnswerOf kind path text y → x ≡ y
   unfolding AnswerOf

@@ -1,4 +1,4 @@
-pub mod Positions
+pub mod Spread
 pub mod Symbols
 pub mod AnswerOf
 pub mod Worked

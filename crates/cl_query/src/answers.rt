@@ -5,6 +5,7 @@ ghost use Rattle.cl_query.specs.AnswerOf.{AnswerOf};
 
 use crate::job::Job;
 use crate::query::Query;
+use crate::spread::spread_all;
 use crate::symbols::symbols;
 use cl_base::{Answer, Mem};
 use cl_lex::lex;
@@ -18,8 +19,9 @@ pub(crate) fn answer_of(alloc: Global, job: &Job) -> Mem<Answer>
     match job.kind {
         Query::Symbols => {
             let text = job.text.bytes();
-            let tokens = lex(alloc, text)?;
-            let items = items(alloc, text, tokens.as_slice())?;
+            let lexed = lex(alloc, text)?;
+            let tokens = spread_all(alloc, lexed.tokens.as_slice())?;
+            let items = items(alloc, tokens.as_slice())?;
             let symbols = symbols(alloc, text, tokens.as_slice(), items.as_slice())?;
             Ok(Answer::Symbols(symbols))
         }

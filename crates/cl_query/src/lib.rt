@@ -5,9 +5,9 @@ mod answers;
 mod done;
 mod job;
 mod laws;
-mod position;
 mod query;
 mod run;
+mod spread;
 mod symbols;
 #[cfg(test)]
 mod tests;

@@ -1,16 +1,14 @@
 //! The symbols of a text.
 
 ghost use Rattle.std.specs.Prelude.{◌≡◌, ◌<◌, ◌≤◌, ◌+◌, ◌^◌, length, IfOk};
-ghost use Rattle.cl_lex.specs.Lexing.{Lexes};
-ghost use Rattle.cl_lex.specs.Tokens.{token_at};
+ghost use Rattle.cl_base.specs.Lines.{position_at};
 ghost use Rattle.cl_parse.specs.Items.{ItemsOf};
-ghost use Rattle.cl_query.specs.Positions.{position_at};
+ghost use Rattle.cl_parse.specs.Tokens.{span_at};
+ghost use Rattle.cl_query.specs.Spread.{LieInOrder};
 ghost use Rattle.cl_query.specs.Symbols.{symbol_at, symbols_in};
 
-use crate::position::{Cursor, START, moved};
-use cl_base::{List, Mem, Range, Symbol, Text};
-use cl_lex::{Token, spelling, token_at};
-use cl_parse::Item;
+use cl_base::{Cursor, List, Mem, PpToken, Range, Symbol, Text};
+use cl_parse::{Item, span_at, text_at};
 use std::alloc::Global;
 
 /// LSP's SymbolKind of a variable (LSP 3.17, SymbolKind).
@@ -20,16 +18,16 @@ const VARIABLE: u8 = 13;
 pub(crate) fn symbols(
     alloc: Global,
     text: &[u8],
-    tokens: &[Token],
+    tokens: &[PpToken],
     items: &[Item],
 ) -> Mem<List<Symbol>>
-    requires lexes { Lexes text.now tokens.now }
-    requires items { ItemsOf text.now tokens.now items.now }
+    requires lie { LieInOrder 0 (length text.now) tokens.now }
+    requires items { ItemsOf tokens.now items.now }
     requires room { length text.now < 2 ^ 32 }
     ensures { IfOk result (λ symbols. symbols ≡ symbols_in text.now tokens.now items.now) }
 {
     let mut symbols = List::new(alloc);
-    let mut cursor = START;
+    let mut cursor = Cursor::start();
     for item in items {
         if let Item::Proper(from, _) = item {
             let (symbol, end) = symbol(alloc, text, tokens, cursor, *from as usize)?;
@@ -44,26 +42,28 @@ pub(crate) fn symbols(
 fn symbol(
     alloc: Global,
     text: &[u8],
-    tokens: &[Token],
+    tokens: &[PpToken],
     cursor: Cursor,
     at: usize,
 ) -> Mem<(Symbol, Cursor)>
-    requires lexes { Lexes text.now tokens.now }
+    requires lie { LieInOrder 0 (length text.now) tokens.now }
     requires room { length text.now < 2 ^ 32 }
     requires tokens { at < 2 ^ 32 }
     requires within { at + 2 < length tokens.now }
-    requires order { cursor.offset ≤ (token_at tokens.now at).from }
+    requires order { cursor.offset ≤ (span_at tokens.now at).from }
     requires stands { cursor.position ≡ position_at text.now cursor.offset }
     ensures symbol { IfOk result (λ pair. pair.0 ≡ symbol_at text.now tokens.now at) }
-    ensures offset { IfOk result (λ pair. pair.1.offset ≡ (token_at tokens.now (at + 2)).to) }
-    ensures position { IfOk result (λ pair. pair.1.position ≡ position_at text.now (token_at tokens.now (at + 2)).to) }
+    ensures offset { IfOk result (λ pair. pair.1.offset ≡ (span_at tokens.now (at + 2)).to) }
+    ensures position { IfOk result (λ pair. pair.1.position ≡ position_at text.now (span_at tokens.now (at + 2)).to) }
 {
-    let start = moved(text, cursor, token_at(tokens, at).from);
-    let name_token = token_at(tokens, at + 1);
-    let name_start = moved(text, start, name_token.from);
-    let name_end = moved(text, name_start, name_token.to);
-    let end = moved(text, name_end, token_at(tokens, at + 2).to);
-    let name = Text::new(alloc, spelling(text, tokens, at + 1))?;
+    let first = span_at(tokens, at);
+    let name_span = span_at(tokens, at + 1);
+    let last = span_at(tokens, at + 2);
+    let start = cursor.moved(text, first.from);
+    let name_start = start.moved(text, name_span.from);
+    let name_end = name_start.moved(text, name_span.to);
+    let end = name_end.moved(text, last.to);
+    let name = Text::new(alloc, text_at(tokens, at + 1))?;
     let symbol = Symbol {
         kind: VARIABLE,
         name,
