@@ -8,4 +8,4 @@ mod Order
 mod Pass
 mod PlainText
 mod Quotes
-mod Unique
+pub mod Unique

@@ -1,3 +1,4 @@
-pub mod Places
-pub mod Ahead
-pub mod Found
+mod Order
+mod Places
+mod Found
+mod Ahead
