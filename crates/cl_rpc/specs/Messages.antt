@@ -1,7 +1,7 @@
 -- What a body is: JSON-RPC 2.0, sections 4 and 5, with the methods of LSP 3.17 that are known.
-use Rattle.std.specs.Prelude.{ℕ, ℤ, negsuc, ◌==◌, ◌&&◌, ◌||◌, nat_le, nat_eq, List, Bool, true, false, if◌then◌else◌, Option, Some, None, codes, option_map, option_and_then, is_some}
+use Rattle.std.specs.Prelude.{ℕ, ℤ, negsuc, ◌==◌, ◌&&◌, ◌||◌, nat_eq, List, Bool, true, false, if◌then◌else◌, Option, Some, None, codes, option_map, option_and_then, is_some}
 use Rattle.std.specs.Str.{is_utf8, bytes_eq}
-use Rattle.std.specs.List.{starts_with, list_all}
+use Rattle.std.specs.List.{starts_with}
 use Rattle.serde_json.specs.Data.{Data, null, boolean, number, string, array, object, Items, no_items, item}
 use Rattle.serde_json.specs.Find.{get, as_str, as_number, as_i64, as_array, as_object}
 use Rattle.serde_json.specs.Read.{read}
@@ -57,15 +57,8 @@ uri_in d = option_and_then (only_if is_file_uri) (option_and_then (text_in (code
 abbrev pub version_in : Data → Option ℤ
 version_in d = option_and_then (whole_in (codes "version")) (document_in d)
 
--- the bytes that a document may hold at this stage: a tab, a line feed, and those from the space to the tilde
-abbrev pub is_plain : ℕ → Bool
-is_plain b = b == 9 || b == 10 || (nat_le 32 b && nat_le b 126)
-
-abbrev pub is_plain_text : List ℕ → Bool
-is_plain_text text = list_all is_plain text
-
 abbrev pub opened_text_in : Data → Option (List ℕ)
-opened_text_in d = option_and_then (only_if is_plain_text) (option_and_then (text_in (codes "text")) (document_in d))
+opened_text_in d = option_and_then (text_in (codes "text")) (document_in d)
 
 -- ---- the list of changes
 
@@ -84,14 +77,9 @@ abbrev pub last_text : Items → Option (List ℕ)
 last_text no_items = None
 last_text (item d ds) = text_in (codes "text") (last_of d ds)
 
--- the text that a list of changes leaves, and None where it is empty;
--- no text at all where a change has none, or where the last one can't be taken
-abbrev pub if_plain : Option (List ℕ) → Option (Option (List ℕ))
-if_plain None = Some None
-if_plain (Some text) = if is_plain_text text then Some (Some text) else None
-
+-- the text that a list of changes leaves, and Some None where it is empty; no text at all where a change has none
 abbrev pub changed_text : Items → Option (Option (List ℕ))
-changed_text ds = if each_has_text ds then if_plain (last_text ds) else None
+changed_text ds = if each_has_text ds then Some (last_text ds) else None
 
 -- ---- the calls, each from the members that it takes
 

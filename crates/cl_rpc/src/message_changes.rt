@@ -4,14 +4,12 @@ ghost use Rattle.serde_json.specs.View.{view, items_view};
 ghost use Rattle.cl_rpc.specs.Messages.{text_in, changes_in, each_has_text, last_text, changed_text};
 
 use crate::json::text_at;
-use crate::message_params::is_plain_text;
 use cl_base::{Mem, Text};
 use serde_json::Value;
 use std::alloc::Global;
 
 /// The text that the list of changes leaves, with `Some(None)` where the list is empty. `None`
-/// comes where there is no list, where a change has no text, and where the last text isn't one
-/// that can be taken.
+/// comes where there is no list, and where a change has no text.
 pub fn changed_text_at(alloc: Global, value: &Value) -> Mem<Option<Option<Text>>>
     ensures { IfOk result (λ text. text ≡ option_and_then changed_text (changes_in (view value.now))) }
 {
@@ -24,9 +22,6 @@ pub fn changed_text_at(alloc: Global, value: &Value) -> Mem<Option<Option<Text>>
     let Some(text) = last_text(changes) else {
         return Ok(Some(None));
     };
-    if !is_plain_text(text.as_bytes()) {
-        return Ok(None);
-    }
     let text = Text::new(alloc, text.as_bytes())?;
     Ok(Some(Some(text)))
 }

@@ -1,6 +1,6 @@
 ghost use Rattle.std.specs.Prelude.{◌≡◌, IfOk, option_map};
 ghost use Rattle.serde_json.specs.View.{view};
-ghost use Rattle.cl_rpc.specs.Messages.{as_id, id_in, document_in, has_params_object, uri_in, version_in, is_file_uri, opened_text_in, cancelled_in, is_plain_text, is_plain};
+ghost use Rattle.cl_rpc.specs.Messages.{as_id, id_in, document_in, has_params_object, uri_in, version_in, is_file_uri, opened_text_in, cancelled_in};
 
 use crate::id::Id;
 use crate::json::{text_at, whole_at};
@@ -78,31 +78,12 @@ pub fn version_at(value: &Value) -> Option<i64>
     whole_at(document, "version")
 }
 
-/// The document's text, where it is one that can be taken.
+/// The document's text.
 pub fn opened_text_at(value: &Value) -> Option<&str>
     ensures { option_map (λ s. s.now) result ≡ opened_text_in (view value.now) }
 {
     let document = document_at(value)?;
-    let text = text_at(document, "text")?;
-    if is_plain_text(text.as_bytes()) {
-        Some(text)
-    } else {
-        None
-    }
-}
-
-/// Whether each byte is one that a document may hold.
-pub fn is_plain_text(text: &[u8]) -> bool
-    ensures { result ≡ is_plain_text text.now }
-{
-    text.iter().all(|byte| is_plain(*byte))
-}
-
-/// Whether a document may hold this byte.
-fn is_plain(byte: u8) -> bool
-    ensures { result ≡ is_plain byte }
-{
-    byte == 9 || byte == 10 || (32 <= byte && byte <= 126)
+    text_at(document, "text")
 }
 
 /// The id that a cancel names.

@@ -157,13 +157,13 @@ fn table() -> &'static str {
 {"jsonrpc":"2.0","method":"textDocument/didOpen","params":{"textDocument":{"uri":"file:///a.c","version":1,"text":7}}} => notification bad false
 {"jsonrpc":"2.0","method":"textDocument/didOpen","params":{"textDocument":{"version":1,"text":""}}} => notification bad false
 {"jsonrpc":"2.0","method":"textDocument/didOpen","params":{"textDocument":{"uri":"file:///a.c","version":1,"text":"\t ~\n"}}} => notification open file:///a.c 1 "\t ~\n"
-{"jsonrpc":"2.0","method":"textDocument/didOpen","params":{"textDocument":{"uri":"file:///a.c","version":1,"text":"\r\n"}}} => notification bad false
-{"jsonrpc":"2.0","method":"textDocument/didOpen","params":{"textDocument":{"uri":"file:///a.c","version":1,"text":"\u007f"}}} => notification bad false
-{"jsonrpc":"2.0","method":"textDocument/didOpen","params":{"textDocument":{"uri":"file:///a.c","version":1,"text":"é"}}} => notification bad false
+{"jsonrpc":"2.0","method":"textDocument/didOpen","params":{"textDocument":{"uri":"file:///a.c","version":1,"text":"\r\n"}}} => notification open file:///a.c 1 "\r\n"
+{"jsonrpc":"2.0","method":"textDocument/didOpen","params":{"textDocument":{"uri":"file:///a.c","version":1,"text":"\u007f"}}} => notification open file:///a.c 1 "\u{7f}"
+{"jsonrpc":"2.0","method":"textDocument/didOpen","params":{"textDocument":{"uri":"file:///a.c","version":1,"text":"é"}}} => notification open file:///a.c 1 "é"
 {"jsonrpc":"2.0","method":"textDocument/didChange","params":{"textDocument":{"uri":"file:///a.c","version":2},"contentChanges":[]}} => notification change file:///a.c 2
 {"jsonrpc":"2.0","method":"textDocument/didChange","params":{"textDocument":{"uri":"file:///a.c","version":2},"contentChanges":[{"text":"a"},{"text":"b"}]}} => notification change file:///a.c 2 "b"
 {"jsonrpc":"2.0","method":"textDocument/didChange","params":{"textDocument":{"uri":"file:///a.c","version":2},"contentChanges":[{"text":"\r"},{"text":"b"}]}} => notification change file:///a.c 2 "b"
-{"jsonrpc":"2.0","method":"textDocument/didChange","params":{"textDocument":{"uri":"file:///a.c","version":2},"contentChanges":[{"text":"b"},{"text":"\r"}]}} => notification bad false
+{"jsonrpc":"2.0","method":"textDocument/didChange","params":{"textDocument":{"uri":"file:///a.c","version":2},"contentChanges":[{"text":"b"},{"text":"\r"}]}} => notification change file:///a.c 2 "\r"
 {"jsonrpc":"2.0","method":"textDocument/didChange","params":{"textDocument":{"uri":"file:///a.c","version":2},"contentChanges":[{"text":1},{"text":"b"}]}} => notification bad false
 {"jsonrpc":"2.0","method":"textDocument/didChange","params":{"textDocument":{"uri":"file:///a.c","version":2},"contentChanges":[{"text":"b"},3]}} => notification bad false
 {"jsonrpc":"2.0","method":"textDocument/didChange","params":{"textDocument":{"uri":"file:///a.c","version":2},"contentChanges":{}}} => notification bad false
