@@ -1,14 +1,13 @@
 -- The characters of a text, piece by piece.
-use Rattle.std.proofs.Common.{◌≡◌, ◌∙◌, ℕ, zero, suc, ◌<◌, ◌≤◌, ◌+◌, ◌-◌, ◌==◌, List, [], ◌∷◌, ◌++◌, length, map, get_or, drop, take, refl, sym, ap, subst, arith, add-one, Bool, true, false, cond, nat_lt, ◌&&◌}
-use Rattle.std.specs.Prelude.{not, if◌then◌else◌, slice_index}
+use Rattle.std.proofs.Common.{◌≡◌, ◌∙◌, ℕ, zero, suc, ◌<◌, ◌≤◌, ◌+◌, ◌-◌, ◌==◌, List, [], ◌∷◌, length, get_or, refl, sym, ap, subst, arith, Bool, true, false, cond, nat_lt, ◌&&◌}
+use Rattle.std.specs.Prelude.{not, if◌then◌else◌}
 use Rattle.std.proofs.lemmas.Bool.Decides.{nat_tests}
-use Rattle.std.proofs.lemmas.Grind.{common_steps}
-use Rattle.cl_lex.specs.Lexing.{nothing}
-use Rattle.cl_lex.specs.Source.{Character, stands, newline_width, is_trigraph, is_byte_order_mark, value_at, width_at, is_splice, splice_width, characters_in, characters, values}
+use Rattle.cl_lex.specs.Lexing.{nothing, begins, ends}
+use Rattle.cl_lex.specs.Source.{Character, stands, newline_width, trigraph, is_trigraph, is_byte_order_mark, value_at, width_at, is_splice, splice_width, characters_in, characters}
 
 -- ---- widths
 
-both_true : (a b : Bool) → (a && b) ≡ true → (a ≡ true) × (b ≡ true)
+pub both_true : (a b : Bool) → (a && b) ≡ true → (a ≡ true) × (b ≡ true)
 both_true true b e = (refl, e)
 both_true false b e = (e, cc)
 
@@ -43,16 +42,16 @@ newline_at text at e = newline_some_cases (stands text at 10) (stands text at 13
 
 trigraph_within : (text : List ℕ) (at : ℕ) → is_trigraph text at ≡ true → at + 2 < length text
 trigraph_within text at e =
-    let one : (stands text at 63 && stands text (at + 1) 63 && nat_lt (at + 2) (length text)) ≡ true = (both_true _ _ e).0 in
-    let two : nat_lt (at + 2) (length text) ≡ true = (both_true _ _ one).1 in
+    let one : (stands text at 63 && stands text (at + 1) 63 && nat_lt (at + 2) (length text)) ≡ true = (both_true (stands text at 63 && stands text (at + 1) 63 && nat_lt (at + 2) (length text)) (not (trigraph (get_or text (at + 2) 0) == 0)) e).0 in
+    let two : nat_lt (at + 2) (length text) ≡ true = (both_true (stands text at 63 && stands text (at + 1) 63) (nat_lt (at + 2) (length text)) one).1 in
     grind (arith, nat_tests)
 
 mark_within : (text : List ℕ) (at : ℕ) → is_byte_order_mark text at ≡ true → at + 2 < length text
 mark_within text at e =
-    let one : (at == 0 && stands text 0 239 && stands text 1 187) ≡ true = (both_true _ _ e).0 in
-    let two : (at == 0 && stands text 0 239) ≡ true = (both_true _ _ one).0 in
-    let start : (at == 0) ≡ true = (both_true _ _ two).0 in
-    let last : 2 < length text = stands_within text 2 191 (both_true _ _ e).1 in
+    let one : (at == 0 && stands text 0 239 && stands text 1 187) ≡ true = (both_true (at == 0 && stands text 0 239 && stands text 1 187) (stands text 2 191) e).0 in
+    let two : (at == 0 && stands text 0 239) ≡ true = (both_true (at == 0 && stands text 0 239) (stands text 1 187) one).0 in
+    let start : (at == 0) ≡ true = (both_true (at == 0) (stands text 0 239) two).0 in
+    let last : 2 < length text = stands_within text 2 191 (both_true (at == 0 && stands text 0 239 && stands text 1 187) (stands text 2 191) e).1 in
     grind (arith, nat_tests)
 
 width_cases : (n : ℕ) (t b : Bool) (at l : ℕ) → at < l → at + n ≤ l → (t ≡ true → at + 2 < l) → (b ≡ true → at + 2 < l) → at + cond (not (n == 0)) n (cond t 3 (cond b 3 1)) ≤ l
@@ -83,7 +82,12 @@ falls l at n w h k = omega arith
 
 none_left : (text : List ℕ) (n at : ℕ) → length text ≤ at → characters_in text n at ≡ []
 none_left text zero at h = refl
-none_left text (suc n) at h = let e : nat_lt at (length text) ≡ false = grind (arith, nat_tests) in rw e refl
+none_left text (suc n) at h =
+    let e : nat_lt at (length text) ≡ false = grind (arith, nat_tests) in
+    ap (λ (b : Bool). if b then
+    (if is_splice text at then characters_in text n (at + splice_width text at) else
+    record { value = value_at text at; from = at; to = at + width_at text at } ∷ characters_in text n (at + width_at text at))
+    else []) e
 
 enough : (text : List ℕ) (n m at : ℕ) → length text - at ≤ n → length text - at ≤ m → characters_in text n at ≡ characters_in text m at
 enough text zero m at h k = sym (none_left text m at (omega arith))
@@ -246,3 +250,25 @@ count_in text (suc n) at =
 pub count : (text : List ℕ) → length (characters text) ≤ length text
 unfolding characters
 count text = count_in text (length text) 0
+
+-- what is made of the characters from one up to another ends after it begins
+pub begins_before_ends : (text : List ℕ) (from to : ℕ) → from < to → to ≤ length (characters text) → begins (characters text) from < ends (characters text) to
+begins_before_ends text from to h l =
+    elim (nat_lt from (to - 1)) as (λ b. nat_lt from (to - 1) ≡ b → begins (characters text) from < ends (characters text) to) [
+      | true ↦ λ e.
+          let k : from < to - 1 = grind (arith, nat_tests) in
+          chain (begins (characters text) from) (ends (characters text) (from + 1)) (begins (characters text) (to - 1)) (ends (characters text) to)
+          (subst (λ (n : ℕ). begins (characters text) from < (get_or (characters text) n nothing).to) (let s : from ≡ from + 1 - 1 = omega arith in s) (lies text from (omega arith)).some)
+          (subst (λ (n : ℕ). (get_or (characters text) n nothing).to ≤ begins (characters text) (to - 1)) (let s : from ≡ from + 1 - 1 = omega arith in s) (in_order text from (to - 1) k (omega arith)))
+          (lies text (to - 1) (omega arith)).some
+      | false ↦ λ e.
+          let k : to - 1 ≡ from = grind (arith, nat_tests) in
+          subst (λ (n : ℕ). begins (characters text) n < ends (characters text) to) k (lies text (to - 1) (omega arith)).some
+    ] refl
+  where
+    chain : (a b c d : ℕ) → a < b → b ≤ c → c < d → a < d
+    chain a b c d p q r = omega arith
+
+-- and what is made of later ones begins after that
+pub ends_before_begins : (text : List ℕ) (to from : ℕ) → 0 < to → to ≤ from → from < length (characters text) → ends (characters text) to ≤ begins (characters text) from
+ends_before_begins text to from s h l = in_order text (to - 1) from (let k : to - 1 < from = omega arith in k) l

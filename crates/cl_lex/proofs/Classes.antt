@@ -1,19 +1,18 @@
 -- What may begin with which character: each kind of item with a few classes of characters only.
-use Rattle.std.proofs.Common.{◌≡◌, ◌≢◌, ◌⊎◌, ℕ, zero, suc, ◌+◌, ◌-◌, ◌<◌, ◌≤◌, ◌&&◌, ◌||◌, ◌==◌, List, Bool, true, false, arith, inl, inr, refl, sym, ◌∙◌, ap, subst, length, slice_index}
+use Rattle.std.proofs.Common.{◌≡◌, ◌≢◌, ◌⊎◌, ℕ, zero, suc, ◌+◌, ◌-◌, ◌<◌, ◌≤◌, ◌||◌, ◌==◌, List, Bool, true, false, arith, inl, inr, refl, sym, ◌∙◌, subst, length, slice_index}
 use Rattle.std.specs.Prelude.{if◌then◌else◌}
 use Rattle.std.proofs.lemmas.Bool.{false≢true}
 use Rattle.std.proofs.lemmas.Bool.Decides.{nat_tests}
-use Rattle.cl_base.specs.declared.token.Kind.{Kind}
 use Rattle.cl_base.specs.declared.token.Kind.TheVariants as kind
 use Rattle.cl_lex.specs.declared.item.ItemKind.{ItemKind}
 use Rattle.cl_lex.specs.declared.item.ItemKind.TheVariants as item
-use Rattle.cl_lex.specs.Bytes.{is_blank, is_digit, is_name_byte, is_name_start}
-use Rattle.cl_lex.specs.Source.{stands}
+use Rattle.cl_lex.specs.Bytes.{is_blank, is_digit, is_name_start}
 use Rattle.cl_lex.specs.Spelling.{IsBlockComment, IsChar, IsHeader, IsIdent, IsLineComment, IsNewLine, IsNumber, IsOpenComment, IsSpace, IsStr, char_prefix, str_prefix}
 use Rattle.cl_lex.specs.Punctuators.{is_punctuator, is_punctuator_1, is_punctuator_2, is_punctuator_3, is_punctuator_4}
 use Rattle.cl_lex.specs.Items.{Spells}
 
--- letters and `_` 1, digits 2, a dot 3, a slash 4, `<` 5, quotes 6 and 7, blanks 8, new-lines 9, other punctuators 10, and 0
+-- the class of a character: 1 a letter or `_`, 2 a digit, 3 a dot, 4 a slash, 5 `<`, 6 `"`, 7 `'`, 8 a blank, 9 a new-line,
+-- 10 what else begins a punctuator, and 0 any other
 pub class : ℕ → ℕ
 class c =
     if is_name_start c then 1 else
@@ -65,7 +64,7 @@ pub class_new_line : (c : ℕ) → c ≡ 10 → class c ≡ 9
 unfolding class
 class_new_line c e = rw e refl
 
--- ---- what may begin with a class
+-- ---- which kinds of items may begin with a class
 
 abbrev pub may : ItemKind → ℕ → Bool
 may (item.Token kind.Ident) n = n == 1
@@ -79,19 +78,6 @@ may item.Comment n = n == 4
 may item.OpenComment n = n == 4
 may item.Space n = n == 8
 may item.NewLine n = n == 9
-
-may_none : (k : ItemKind) → may k 0 ≡ false
-may_none (item.Token kind.Ident) = refl
-may_none (item.Token kind.Number) = refl
-may_none (item.Token kind.Char) = refl
-may_none (item.Token kind.Str) = refl
-may_none (item.Token kind.Header) = refl
-may_none (item.Token kind.Punct) = refl
-may_none (item.Token kind.Other) = refl
-may_none item.Comment = refl
-may_none item.OpenComment = refl
-may_none item.Space = refl
-may_none item.NewLine = refl
 
 pub punct_three : (a b c : ℕ) → is_punctuator_3 a b c ≡ true → ((a ≡ 46) × (b ≡ 46)) ⊎ ((a ≡ 60) ⊎ (a ≡ 62))
 punct_three a b c e = grind (arith, nat_tests)
@@ -201,67 +187,33 @@ module _ (cs : List ℕ) (header : Bool) where
   wrong : (k : ItemKind) (from m n : ℕ) → Spells cs header k from m → class (slice_index cs from) ≡ n → may k n ≡ false → ⊥
   wrong k from m n s e f = false≢true (sym f ∙ subst (λ (x : ℕ). may k x ≡ true) e (fits k from m s))
 
-  -- ---- which items can begin with a class: where none of those is, at the places that Q says, no item is
+  -- ---- no longer item begins with a class, where none does of those that can
 
-  module _ (Q : ℕ → Type 0) (from : ℕ) where
-    abbrev pub None : (ℕ → Type 0) → Type 0
-    None S = (m : ℕ) → Q m → m ≤ length cs → S m → ⊥
+  module _ (from to : ℕ) where
+    abbrev NoLonger : (ℕ → Type 0) → Type 0
+    NoLonger S = (m : ℕ) → to < m → m ≤ length cs → S m → ⊥
 
-    abbrev pub NoItem : Type 0
-    NoItem = (k : ItemKind) (m : ℕ) → Q m → m ≤ length cs → Spells cs header k from m → ⊥
+    abbrev NoneLonger : Type 0
+    NoneLonger = (k : ItemKind) (m : ℕ) → to < m → m ≤ length cs → Spells cs header k from m → ⊥
 
-    pub only_name : class (slice_index cs from) ≡ 1 → None (IsIdent cs from) → None (IsChar cs from) → None (IsStr cs from) → NoItem
-    only_name e a b c (item.Token kind.Ident) m q w s = a m q w s
-    only_name e a b c (item.Token kind.Char) m q w s = b m q w s
-    only_name e a b c (item.Token kind.Str) m q w s = c m q w s.0
-    only_name e a b c other m q w s = wrong other from m 1 s e refl
+    pub only_name : class (slice_index cs from) ≡ 1 → NoLonger (IsIdent cs from) → NoLonger (IsChar cs from) → NoLonger (IsStr cs from) → NoneLonger
+    only_name e a b c (item.Token kind.Ident) m l w s = a m l w s
+    only_name e a b c (item.Token kind.Char) m l w s = b m l w s
+    only_name e a b c (item.Token kind.Str) m l w s = c m l w s.0
+    only_name e a b c other m l w s = wrong other from m 1 s e refl
 
-    pub only_digit : class (slice_index cs from) ≡ 2 → None (IsNumber cs from) → NoItem
-    only_digit e a (item.Token kind.Number) m q w s = a m q w s
-    only_digit e a other m q w s = wrong other from m 2 s e refl
+    pub only_digit : class (slice_index cs from) ≡ 2 → NoLonger (IsNumber cs from) → NoneLonger
+    only_digit e a (item.Token kind.Number) m l w s = a m l w s
+    only_digit e a other m l w s = wrong other from m 2 s e refl
 
-    pub only_dot : class (slice_index cs from) ≡ 3 → None (IsNumber cs from) → None (λ m. is_punctuator cs from (m - from) ≡ true) → NoItem
-    only_dot e a b (item.Token kind.Number) m q w s = a m q w s
-    only_dot e a b (item.Token kind.Punct) m q w s = b m q w s
-    only_dot e a b other m q w s = wrong other from m 3 s e refl
+    pub only_slash : class (slice_index cs from) ≡ 4 → NoLonger (IsBlockComment cs from) → NoLonger (IsLineComment cs from) → NoLonger (IsOpenComment cs from)
+        → NoLonger (λ m. is_punctuator cs from (m - from) ≡ true) → NoneLonger
+    only_slash e a b c d item.Comment m l w (inl s) = a m l w s
+    only_slash e a b c d item.Comment m l w (inr s) = b m l w s
+    only_slash e a b c d item.OpenComment m l w s = c m l w s
+    only_slash e a b c d (item.Token kind.Punct) m l w s = d m l w s
+    only_slash e a b c d other m l w s = wrong other from m 4 s e refl
 
-    pub only_slash : class (slice_index cs from) ≡ 4 → None (IsBlockComment cs from) → None (IsLineComment cs from) → None (IsOpenComment cs from)
-        → None (λ m. is_punctuator cs from (m - from) ≡ true) → NoItem
-    only_slash e a b c d item.Comment m q w (inl s) = a m q w s
-    only_slash e a b c d item.Comment m q w (inr s) = b m q w s
-    only_slash e a b c d item.OpenComment m q w s = c m q w s
-    only_slash e a b c d (item.Token kind.Punct) m q w s = d m q w s
-    only_slash e a b c d other m q w s = wrong other from m 4 s e refl
-
-    pub only_less : class (slice_index cs from) ≡ 5 → None (λ m. (header ≡ true) × IsHeader cs from m)
-        → None (λ m. is_punctuator cs from (m - from) ≡ true) → NoItem
-    only_less e a b (item.Token kind.Header) m q w s = a m q w s
-    only_less e a b (item.Token kind.Punct) m q w s = b m q w s
-    only_less e a b other m q w s = wrong other from m 5 s e refl
-
-    pub only_double : class (slice_index cs from) ≡ 6 → None (λ m. (header ≡ true) × IsHeader cs from m)
-        → None (λ m. IsStr cs from m × (header ≡ true → (n : ℕ) → IsHeader cs from n → ⊥)) → NoItem
-    only_double e a b (item.Token kind.Header) m q w s = a m q w s
-    only_double e a b (item.Token kind.Str) m q w s = b m q w s
-    only_double e a b other m q w s = wrong other from m 6 s e refl
-
-    pub only_single : class (slice_index cs from) ≡ 7 → None (IsChar cs from) → NoItem
-    only_single e a (item.Token kind.Char) m q w s = a m q w s
-    only_single e a other m q w s = wrong other from m 7 s e refl
-
-    pub only_blank : class (slice_index cs from) ≡ 8 → None (IsSpace cs from) → NoItem
-    only_blank e a item.Space m q w s = a m q w s
-    only_blank e a (item.Token kind.Other) m q w s = absurd s
-    only_blank e a other m q w s = wrong other from m 8 s e refl
-
-    pub only_new_line : class (slice_index cs from) ≡ 9 → None (IsNewLine cs from) → NoItem
-    only_new_line e a item.NewLine m q w s = a m q w s
-    only_new_line e a (item.Token kind.Other) m q w s = absurd s
-    only_new_line e a other m q w s = wrong other from m 9 s e refl
-
-    pub only_mark : class (slice_index cs from) ≡ 10 → None (λ m. is_punctuator cs from (m - from) ≡ true) → NoItem
-    only_mark e a (item.Token kind.Punct) m q w s = a m q w s
-    only_mark e a other m q w s = wrong other from m 10 s e refl
-
-    pub only_none : class (slice_index cs from) ≡ 0 → NoItem
-    only_none e k m q w s = wrong k from m 0 s e (may_none k)
+    pub only_mark : class (slice_index cs from) ≡ 10 → NoLonger (λ m. is_punctuator cs from (m - from) ≡ true) → NoneLonger
+    only_mark e a (item.Token kind.Punct) m l w s = a m l w s
+    only_mark e a other m l w s = wrong other from m 10 s e refl

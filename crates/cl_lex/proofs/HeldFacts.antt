@@ -1,5 +1,5 @@
 -- What follows of the characters from what is held of them.
-use Rattle.std.proofs.Common.{◌≡◌, ◌∙◌, ℕ, ◌<◌, ◌≤◌, ◌+◌, ◌-◌, ◌^◌, List, length, map, get_or, refl, sym, ap, arith}
+use Rattle.std.proofs.Common.{◌≡◌, ◌∙◌, ℕ, ◌<◌, ◌≤◌, ◌+◌, ◌-◌, List, length, get_or, sym, ap, arith}
 use Rattle.std.specs.Prelude.{Option, Some, None}
 use Rattle.std.specs.List.{range_with_len}
 use Rattle.std.proofs.lemmas.List.{get_or-map, length-map, get_or_read}
@@ -8,7 +8,7 @@ use Rattle.cl_lex.specs.declared.source.Joined.{Joined}
 use Rattle.cl_lex.specs.Source.{Character, width_at, characters, values}
 use Rattle.cl_lex.specs.Lexing.{nothing, begins, ends}
 use Rattle.cl_lex.specs.Held.{IsHeld, held_starts, held_values, starts}
-use Rattle.cl_lex.proofs.Characters.{Lies, lies, count}
+use Rattle.cl_lex.proofs.Characters.{lies, count}
 
 start_of : (cs : List Character) (at : ℕ) → at < length cs → get_or (starts cs) at 0 ≡ begins cs at
 start_of cs at h = get_or-map (λ (c : Character). c.from) cs at nothing 0 h

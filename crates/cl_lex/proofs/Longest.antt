@@ -1,5 +1,5 @@
 -- Why no longer item can be formed.
-use Rattle.std.proofs.Common.{◌≡◌, ◌≢◌, ◌⊎◌, ℕ, zero, suc, ◌+◌, ◌-◌, ◌<◌, ◌≤◌, List, Bool, true, false, arith, inl, inr, refl, sym, ◌∙◌, ap, length, slice_index}
+use Rattle.std.proofs.Common.{◌≡◌, ◌⊎◌, ℕ, zero, suc, ◌+◌, ◌-◌, ◌<◌, ◌≤◌, List, Bool, true, false, arith, inl, inr, refl, sym, ◌∙◌, length, slice_index}
 use Rattle.std.proofs.lemmas.Bool.{false≢true}
 use Rattle.std.proofs.lemmas.Bool.Decides.{nat_tests}
 use Rattle.std.proofs.lemmas.Grind.{common_steps}
@@ -7,11 +7,11 @@ use Rattle.std.specs.Prelude.{if◌then◌else◌, ◌&&◌, nat_lt}
 use Rattle.cl_base.specs.declared.token.Kind.TheVariants as kind
 use Rattle.cl_base.specs.Characters.{char_len, is_tail}
 use Rattle.cl_lex.specs.declared.item.ItemKind.TheVariants as item
-use Rattle.cl_lex.specs.Bytes.{is_blank, is_digit, is_name_byte, is_name_start}
-use Rattle.cl_lex.specs.Spelling.{AllPass, IsBlockComment, IsChar, IsLineComment, IsOpenComment, IsStr, goes_on_number}
-use Rattle.cl_lex.specs.Punctuators.{is_punctuator, is_punctuator_1}
+use Rattle.cl_lex.specs.Bytes.{is_digit, is_name_byte, is_name_start}
+use Rattle.cl_lex.specs.Spelling.{AllPass, IsBlockComment, IsChar, IsStr, goes_on_number}
+use Rattle.cl_lex.specs.Punctuators.{is_punctuator}
 use Rattle.cl_lex.specs.Items.{IsLongest}
-use Rattle.cl_lex.proofs.Classes.{class, class_digit, class_mark, class_name, class_slash, only_digit, only_mark, only_name, only_slash}
+use Rattle.cl_lex.proofs.Classes.{class, class_digit, class_name, class_slash, only_digit, only_mark, only_name, only_slash}
 
 module _ (cs : List ℕ) where
   pub ident_longest : (at to : ℕ) → at < to → to ≤ length cs → is_name_start (slice_index cs at) ≡ true → AllPass cs is_name_byte (at + 1) to
@@ -20,7 +20,7 @@ module _ (cs : List ℕ) where
   ident_longest at to some within first all stops no_char no_str header = record {
     within = within;
     spells = (some, first, λ i low high. each i (omega arith) high);
-    longest = only_name cs header (λ (m : ℕ). to < m) at (class_name _ first)
+    longest = only_name cs header at to (class_name _ first)
         (λ m more end s. false≢true (sym (stops (omega arith)) ∙ s.2 to (omega arith) more))
         (λ m more end s. no_char m s)
         (λ m more end s. no_str m s);
@@ -45,7 +45,7 @@ module _ (cs : List ℕ) where
   number_longest at to some within first all stops header = record {
     within = within;
     spells = (some, inl first, λ i low high. all i (omega arith) high);
-    longest = only_digit cs header (λ (m : ℕ). to < m) at (class_digit _ first)
+    longest = only_digit cs header at to (class_digit _ first)
         (λ m more end s. false≢true (sym (stops (omega arith)) ∙ s.2 to (omega arith) more));
   }
 
@@ -61,7 +61,7 @@ module _ (cs : List ℕ) where
   block_longest at to within comment header = record {
     within = within;
     spells = inl comment;
-    longest = only_slash cs header (λ (m : ℕ). to < m) at (class_slash _ comment.1)
+    longest = only_slash cs header at to (class_slash _ comment.1)
         (λ m more end s. s.5 (to - 2) (omega (arith, comment.0)) (omega (arith, comment.0)) comment.3 last)
         (λ m more end s. absurd (omega (arith, s.2, comment.2)))
         (λ m more end s. s.4 (to - 2) (omega (arith, comment.0)) (omega (arith, comment.0)) comment.3 last)
@@ -80,7 +80,7 @@ module _ (cs : List ℕ) where
   punct_longest at len some within first is longest header = record {
     within = within;
     spells = (let same : at + len - at ≡ len = omega arith in rw same is);
-    longest = only_mark cs header (λ (m : ℕ). at + len < m) at first (λ m more end s. longest (m - at) (omega arith) (omega arith) s);
+    longest = only_mark cs header at (at + len) first (λ m more end s. longest (m - at) (omega arith) (omega arith) s);
   }
 
 -- ---- a character ends within the text

@@ -1,18 +1,15 @@
 -- The characters of a text whose bytes are its characters.
-use Rattle.std.proofs.Common.{◌≡◌, ◌∙◌, ℕ, zero, suc, ◌<◌, ◌≤◌, ◌+◌, ◌-◌, ◌^◌, ◌==◌, List, [], ◌∷◌, length, map, get_or, drop, refl, sym, ap, subst, arith, add-one, Bool, true, false, cond, nat_lt, ◌&&◌, ◌||◌}
-use Rattle.std.specs.Prelude.{not, slice_index, None}
+use Rattle.std.proofs.Common.{below_more, ◌≡◌, ◌∙◌, ℕ, zero, suc, ◌<◌, ◌≤◌, ◌+◌, ◌^◌, ◌==◌, List, ◌∷◌, length, get_or, drop, refl, sym, ap, arith, add-one, Bool, true, false, cond, nat_lt, ◌&&◌, ◌||◌}
+use Rattle.std.specs.Prelude.{not, None}
 use Rattle.std.specs.List.{range_with_len}
 use Rattle.std.proofs.Math.Seq.{drop-cons}
 use Rattle.std.proofs.Math.ListN.{drop_of_length-le}
-use Rattle.std.proofs.lemmas.Bool.{eqb-true, eq-eqb, not-true, not_from_false}
-use Rattle.cl_lex.specs.Source.{Character, stands, newline_width, trigraph, is_trigraph, is_byte_order_mark, value_at, width_at, is_splice, splice_width, characters_in, characters, values}
+use Rattle.std.proofs.lemmas.Bool.{eqb-true, eq-eqb, ne_eqb, not-true, not_from_false}
+use Rattle.std.proofs.lemmas.Bool.Decides.{nat_tests}
+use Rattle.cl_lex.specs.Source.{stands, trigraph, is_trigraph, is_byte_order_mark, value_at, width_at, is_splice, characters_in, characters, values}
 use Rattle.cl_lex.specs.Plain.{IsPlain, is_plain_at, is_special}
 use Rattle.cl_lex.specs.Held.{IsHeld, starts}
-use Rattle.cl_lex.proofs.Characters.{kept_piece}
-
-both_true : (a b : Bool) → (a && b) ≡ true → (a ≡ true) × (b ≡ true)
-both_true true b e = (refl, e)
-both_true false b e = (e, cc)
+use Rattle.cl_lex.proofs.Characters.{both_true, kept_piece}
 
 both_false : (a b : Bool) → (a || b) ≡ false → (a ≡ false) × (b ≡ false)
 both_false true b e = (e, cc)
@@ -48,26 +45,42 @@ ordinary_width false true f t m a b e = absurd (let k : true ≡ false = a in cc
 ordinary_width false false f true m a b e = absurd (let k : true ≡ false = b in cc)
 ordinary_width false false f false true a b e = absurd (let k : true ≡ false = e in cc)
 
-no_mark : (b : Bool) (text : List ℕ) (at : ℕ) → (b ≡ true → at ≡ 0) → (get_or text at 0 == 239) ≡ false → (b && stands text 0 239) ≡ false
-no_mark true text at h e = and_false (nat_lt 0 (length text)) (get_or text 0 0 == 239) (subst (λ (k : ℕ). (get_or text k 0 == 239) ≡ false) (h refl) e)
-no_mark false text at h e = refl
-
-pub ordinary : (text : List ℕ) (at : ℕ) → is_special (get_or text at 0) ≡ false → is_plain_at text at ≡ true
-ordinary text at h =
+pub ordinary : (text : List ℕ) (at : ℕ) → 0 < at → is_special (get_or text at 0) ≡ false → is_plain_at text at ≡ true
+ordinary text at some h =
     let c : ℕ = get_or text at 0 in
-    let three = both_false ((c == 13 || c == 63) || c == 92) (c == 239) h in
-    let two = both_false (c == 13 || c == 63) (c == 92) three.0 in
+    let two = both_false (c == 13 || c == 63) (c == 92) h in
     let one = both_false (c == 13) (c == 63) two.0 in
     let r : stands text at 13 ≡ false = and_false (nat_lt at (length text)) (c == 13) one.0 in
     let q : stands text at 63 ≡ false = and_false (nat_lt at (length text)) (c == 63) one.1 in
     let t : is_trigraph text at ≡ false = false_and _ _ (false_and _ _ (false_and (stands text at 63) (stands text (at + 1) 63) q)) in
-    let m : is_byte_order_mark text at ≡ false = false_and _ _ (false_and _ _ (no_mark (at == 0) text at (eqb-true at 0) three.1)) in
+    let inner : (at == 0) ≡ false = ne_eqb at 0 (λ e. omega arith) in
+    let m : is_byte_order_mark text at ≡ false = false_and _ _ (false_and _ _ (false_and (at == 0) (stands text 0 239) inner)) in
     let value : value_at text at ≡ c = ordinary_value (stands text at 10) (stands text at 13) (stands text (at + 1) 10) (is_trigraph text at) (is_byte_order_mark text at) c (trigraph (get_or text (at + 2) 0)) r t m
     (λ e. eqb-true c 10 (both_true (nat_lt at (length text)) (c == 10) e).1) in
     let width : width_at text at ≡ 1 = ordinary_width (stands text at 10) (stands text at 13) (stands text (at + 1) 10) (is_trigraph text at) (is_byte_order_mark text at) r t m in
     let splice : is_splice text at ≡ false = false_and (value_at text at == 92) _ (ap (λ (v : ℕ). v == 92) value ∙ two.1) in
     and_true (value_at text at == c && width_at text at == 1) (not (is_splice text at))
     (and_true (value_at text at == c) (width_at text at == 1) (eq-eqb (value_at text at) c value) (eq-eqb (width_at text at) 1 width)) (not_from_false (is_splice text at) splice)
+
+below : (a b : ℕ) → nat_lt a b ≡ true → a < b
+below a b e = grind (arith, nat_tests)
+
+above : (a b : ℕ) → nat_lt a b ≡ false → b ≤ a
+above a b e = grind (arith, nat_tests)
+
+-- what holds below a number, and from there up to another
+two_parts : (P : ℕ → Type 0) (m n : ℕ) → ((i : ℕ) → i < m → P i) → ((i : ℕ) → m ≤ i → i < n → P i) → (i : ℕ) → i < n → P i
+two_parts P m n p q i h = elim (nat_lt i m) as (λ b. nat_lt i m ≡ b → P i) [ true ↦ λ e. p i (below i m e) | false ↦ λ e. q i (above i m e) h ] refl
+
+after_some : (at i : ℕ) → at + 1 ≤ i → 0 < i
+after_some at i h = omega arith
+
+-- each byte up to the next special one is a character
+pub plain_up_to : (text : List ℕ) (at next : ℕ) → ((i : ℕ) → i < at → is_plain_at text i ≡ true) → is_plain_at text at ≡ true
+    → ((i : ℕ) → at + 1 ≤ i → i < next → is_special (get_or text i 0) ≡ false) → (i : ℕ) → i < next → is_plain_at text i ≡ true
+plain_up_to text at next before here after =
+    two_parts (λ (i : ℕ). is_plain_at text i ≡ true) (at + 1) next (below_more (λ (i : ℕ). is_plain_at text i ≡ true) at before here)
+    (λ i h k. ordinary text i (after_some at i h) (after i h k))
 
 -- ---- each byte is a character
 

@@ -1,8 +1,7 @@
 -- A text is cut into items in one way.
-use Rattle.std.proofs.Common.{◌≡◌, ◌≢◌, ◌⊎◌, ℕ, zero, suc, ◌+◌, ◌-◌, ◌<◌, ◌≤◌, List, [], ◌∷◌, Bool, true, false, arith, inl, inr, refl, sym, ◌∙◌, ap, subst, length, slice_index}
+use Rattle.std.proofs.Common.{◌≡◌, ◌≢◌, ◌⊎◌, ℕ, zero, suc, ◌+◌, ◌-◌, ◌<◌, ◌≤◌, List, [], ◌∷◌, Bool, true, false, arith, inl, inr, refl, sym, ap, ◌∙◌, subst, slice_index}
 use Rattle.std.proofs.lemmas.Bool.{false≢true}
 use Rattle.std.proofs.lemmas.Bool.Decides.{nat_tests}
-use Rattle.cl_base.specs.declared.token.Kind.{Kind}
 use Rattle.cl_base.specs.declared.token.Kind.TheVariants as kind
 use Rattle.cl_lex.specs.declared.item.Item.{Item}
 use Rattle.cl_lex.specs.declared.item.ItemKind.{ItemKind}
@@ -12,11 +11,11 @@ use Rattle.cl_lex.specs.declared.item.Line.{Line}
 use Rattle.cl_lex.specs.declared.item.Line.TheVariants.{Start}
 use Rattle.cl_lex.specs.Source.{characters, values}
 use Rattle.cl_lex.specs.Lexing.{Lexes, faults_of, tokens_of}
-use Rattle.cl_lex.specs.Bytes.{is_digit, is_name_byte}
+use Rattle.cl_lex.specs.Bytes.{is_name_byte}
 use Rattle.cl_lex.specs.Spelling.{IsBlockComment, IsChar, IsHeader, IsIdent, IsLineComment, IsNumber, IsOpenComment, IsStr, char_prefix, str_prefix}
 use Rattle.cl_lex.specs.Punctuators.{is_punctuator, is_punctuator_2, is_punctuator_3}
 use Rattle.cl_lex.specs.Items.{IsAlone, IsItem, IsLoneQuote, IsLongest, IsStray, Spells, Tiles, line_after, takes_header}
-use Rattle.cl_lex.proofs.Classes.{class, class_digit, class_double, class_slash, fits, may, punct_four, punct_three, str_prefix_is}
+use Rattle.cl_lex.proofs.Classes.{class, fits, may, punct_four, str_prefix_is}
 
 order : (x y : ℕ) → (x < y) ⊎ ((y < x) ⊎ (x ≡ y))
 order x y = grind arith
@@ -79,7 +78,6 @@ module _ (cs : List ℕ) (from to : ℕ) where
   header_punct (inr s) t =
       let by = punct_by (to - from) t in
       grind (arith, nat_tests, s.0, s.2)
-
 
 module _ (cs : List ℕ) (header : Bool) (from to : ℕ) where
   -- no two kinds at one place
@@ -166,6 +164,7 @@ same_longest cs header k j from a b p q = record {
     go (inl l) = absurd (p.longest j b l q.within q.spells)
     go (inr (inl l)) = absurd (q.longest k a l p.within p.spells)
     go (inr (inr e)) = e
+
     end : a ≡ b
     end = go (order a b)
 

@@ -10,6 +10,6 @@ is_plain_at text at = value_at text at == slice_index text at && width_at text a
 abbrev pub IsPlain : List ℕ → Type 0
 IsPlain text = (i : ℕ) → i < length text → is_plain_at text i ≡ true
 
--- CR, `?`, a backslash, or the first byte of a byte order mark: each other byte is a character by itself
+-- CR, `?` or a backslash: each other byte is a character by itself, but for a byte order mark's at the start
 abbrev pub is_special : ℕ → Bool
-is_special c = c == 13 || c == 63 || c == 92 || c == 239
+is_special c = c == 13 || c == 63 || c == 92

@@ -31,7 +31,11 @@ pub(crate) fn next_item(chars: &[u8], at: usize, header: bool) -> Item
         return number(chars, at);
     }
     match first {
-        b'\n' => new_line(chars, at),
+        b'\n' => Item {
+            kind: ItemKind::NewLine,
+            from: at,
+            to: at + 1,
+        },
         b'.' => dot(chars, at),
         b'/' => slash(chars, at),
         b'<' => less(chars, at, header),
@@ -84,23 +88,6 @@ fn blanks(chars: &[u8], at: usize) -> Item
         kind: ItemKind::Space,
         from: at,
         to: blank_end(chars, at + 1),
-    }
-}
-
-/// A new-line.
-fn new_line(chars: &[u8], at: usize) -> Item
-    requires within { at < length chars.now }
-    requires first { slice_index chars.now at ≡ 10 }
-    ensures from { result.from ≡ at }
-    ensures grows { at < result.to }
-    ensures within { result.to ≤ length chars.now }
-    ensures item { (header : Bool) → IsItem chars.now header result.kind at result.to }
-{
-    let _text = chars;
-    Item {
-        kind: ItemKind::NewLine,
-        from: at,
-        to: at + 1,
     }
 }
 

@@ -1,6 +1,6 @@
 //! The characters of a text after translation phases 1 and 2 (N1570 5.1.1.2).
 
-ghost use Rattle.std.specs.Prelude.{◌≡◌, ◌≤◌, ◌<◌, ◌^◌, ◌↔◌, ◌++◌, ◌∷◌, [], IfOk, OnOk, IsTrue, Some, None, length};
+ghost use Rattle.std.specs.Prelude.{◌≡◌, ◌≤◌, ◌<◌, ◌^◌, ◌↔◌, ◌++◌, ◌∷◌, [], IfOk, OnOk, IsTrue, Some, None, length, slice_index, ℕ, false};
 ghost use Rattle.cl_lex.specs.Source.{characters, values};
 ghost use Rattle.cl_lex.specs.Lexing.{begins, ends};
 ghost use Rattle.cl_lex.specs.Held.{IsHeld};
@@ -8,6 +8,7 @@ ghost use Rattle.cl_lex.specs.Plain.{IsPlain, is_plain_at, is_special};
 
 use crate::pieces::{is_splice, splice_width, value_at, width_at};
 use cl_base::Mem;
+use memchr::memchr3;
 use std::alloc::Global;
 use std::marker::Model;
 
@@ -103,22 +104,49 @@ impl Joined {
     }
 }
 
-/// Whether the byte may be no character by itself: CR, `?`, a backslash, or the first of a byte order mark.
+/// Whether the byte may be no character by itself: CR, `?` or a backslash.
+#[inline(always)]
 fn is_special(c: u8) -> bool
     ensures { result ≡ is_special c }
 {
-    matches!(c, b'\r' | b'?' | b'\\' | 0xef)
+    matches!(c, b'\r' | b'?' | b'\\')
+}
+
+/// The first such byte from here on, or the text's length where there is none.
+fn next_special(text: &[u8], from: usize) -> usize
+    requires { from ≤ length text.now }
+    ensures ahead { from ≤ result }
+    ensures within { result ≤ length text.now }
+    ensures ordinary { (i : ℕ) → from ≤ i → i < result → is_special (slice_index text.now i) ≡ false }
+{
+    let (_, left) = text.split_at(from);
+    match memchr3(b'\r', b'?', b'\\', left) {
+        Some(found) => from + found,
+        None => text.len(),
+    }
 }
 
 /// Whether the byte here is a character by itself.
+#[inline(always)]
 fn is_plain_at(text: &[u8], at: usize) -> bool
     requires within { at < length text.now }
     requires small { at < 2 ^ 31 }
     ensures { result ≡ is_plain_at text.now at }
 {
-    if !is_special(text[at]) {
-        return true;
+    if at > 0 && !is_special(text[at]) {
+        true
+    } else {
+        is_plain_special(text, at)
     }
+}
+
+/// The same, by the bytes after it.
+#[inline(never)]
+fn is_plain_special(text: &[u8], at: usize) -> bool
+    requires within { at < length text.now }
+    requires small { at < 2 ^ 31 }
+    ensures { result ≡ is_plain_at text.now at }
+{
     value_at(text, at) == text[at] && width_at(text, at) == 1 && !is_splice(text, at)
 }
 
@@ -127,10 +155,12 @@ fn is_plain(text: &[u8]) -> bool
     requires { length text.now ≤ 2 ^ 28 }
     ensures { IsTrue result ↔ IsPlain text.now }
 {
-    for at in 0..text.len() {
-        if !is_plain_at(text, at) {
+    let mut at = 0;
+    while at < text.len() {
+        if !is_plain_special(text, at) {
             return false;
         }
+        at = next_special(text, at + 1);
     }
     true
 }

@@ -1,4 +1,4 @@
-use Rattle.std.proofs.Common.{◌≡◌, ◌+◌, ◌<◌, ◌≤◌, arith, slice_index}
+use Rattle.std.proofs.Common.{◌≡◌, ◌+◌, arith, slice_index}
 use Rattle.cl_lex.proofs.Longest.{block_longest}
 use Rattle.cl_lex.proofs.next.slash.Goals as goal
 

@@ -1,4 +1,4 @@
-use Rattle.std.proofs.Common.{◌≡◌, ◌∙◌, ◌++◌, ◌∷◌, [], ◌+◌, ℕ, refl, sym, ap, true, false}
+use Rattle.std.proofs.Common.{◌∙◌, ◌++◌, ◌∷◌, [], ◌+◌, ℕ, refl, sym, ap}
 use Rattle.cl_lex.proofs.Joining.{joining_none, joining_plain, joining_spliced, joining_more}
 use Rattle.cl_lex.proofs.source.join.Goals as goal
 
