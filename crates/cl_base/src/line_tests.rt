@@ -32,7 +32,10 @@ fn lines(rt: HostRuntime) -> Result<(), Fail> {
         (b"".as_slice(), 0, 1, 0),
     ] {
         let at = Position { line, character };
-        assert!(rt; place(alloc, text, at)? == offset, "the offset of a position");
+        assert!(rt;
+            place(alloc, text, at)? == offset,
+            "the offset of a position"
+        );
     }
     for (text, offset, line, character) in [
         (MIXED, 1, 0, 1),
@@ -50,10 +53,19 @@ fn lines(rt: HostRuntime) -> Result<(), Fail> {
         (b"".as_slice(), 0, 0, 0),
     ] {
         let at = Position { line, character };
-        assert!(rt; position(alloc, text, offset)? == Some(at), "the position of an offset");
-        assert!(rt; walked(text, offset) == Some(at), "the position that a cursor comes to");
+        assert!(rt;
+            position(alloc, text, offset)? == Some(at),
+            "the position of an offset"
+        );
+        assert!(rt;
+            walked(text, offset) == Some(at),
+            "the position that a cursor comes to"
+        );
     }
-    assert!(rt; char_len(MIXED, 1) == 4 && char_len(MIXED, 2) == 0, "characters");
+    assert!(rt;
+        char_len(MIXED, 1) == 4 && char_len(MIXED, 2) == 0,
+        "characters"
+    );
     found_back();
     Ok(())
 }
