@@ -2,7 +2,6 @@
 use Rattle.std.proofs.Common.{◌≡◌, ℕ, ◌<◌, ◌≤◌, ◌+◌, ◌-◌, List, [], ◌∷◌, length, ⊎_elim, subst, sym, ap, arith, Bool, true, false, suc, refl}
 use Rattle.std.specs.Prelude.{slice_index_or, ◌++◌}
 use Rattle.std.proofs.lemmas.Bool.{cases_lt}
-use Rattle.cl_base.specs.declared.token.Kind.{Kind}
 use Rattle.cl_lex.specs.declared.item.Item.{Item}
 use Rattle.cl_lex.specs.declared.item.Line.{Line}
 use Rattle.cl_lex.specs.declared.item.ItemKind.{ItemKind}

@@ -1,8 +1,7 @@
 -- Which items a text is cut into (N1570 6.4p4): each is the longest that can be formed. `cs` are the characters after
 -- phases 1 and 2.
-use Rattle.std.specs.Prelude.{◌≡◌, ◌⊎◌, ℕ, ◌+◌, ◌-◌, ◌<◌, ◌≤◌, ◌&&◌, ◌||◌, ◌==◌, nat_lt, List, [], ◌∷◌, length, slice_index, slice_range, nat_eq, codes, Bool, true, false, not, if◌then◌else◌}
+use Rattle.std.specs.Prelude.{◌≡◌, ◌⊎◌, ℕ, ◌+◌, ◌-◌, ◌<◌, ◌≤◌, ◌||◌, ◌==◌, List, [], ◌∷◌, length, slice_index, slice_range, nat_eq, codes, Bool, true, false, if◌then◌else◌}
 use Rattle.std.specs.Cmp.Lexicographic.{pointwise}
-use Rattle.cl_base.specs.declared.token.Kind.{Kind}
 use Rattle.cl_base.specs.declared.token.Kind.TheVariants as kind
 use Rattle.cl_base.specs.Characters.{char_len}
 use Rattle.cl_lex.specs.declared.item.Item.{Item}

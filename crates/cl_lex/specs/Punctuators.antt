@@ -1,5 +1,5 @@
 -- The punctuators (N1570 6.4.6), by their lengths.
-use Rattle.std.specs.Prelude.{ℕ, zero, suc, ◌+◌, ◌||◌, ◌&&◌, ◌==◌, List, [], ◌∷◌, slice_index, Bool, true, false, codes}
+use Rattle.std.specs.Prelude.{ℕ, zero, suc, ◌+◌, ◌||◌, ◌&&◌, ◌==◌, List, slice_index, Bool, false, codes}
 use Rattle.std.specs.List.{list_any}
 
 abbrev pub is_one_of : List ℕ → ℕ → Bool

@@ -1,6 +1,6 @@
 -- The characters of a text after translation phases 1 and 2 (N1570 5.1.1.2, 5.2.1.1): line ends are one character,
 -- trigraphs are replaced, and a backslash with the line end after it is gone.
-use Rattle.std.specs.Prelude.{◌≡◌, ℕ, zero, suc, ◌+◌, ◌&&◌, ◌==◌, nat_lt, not, List, [], ◌∷◌, length, map, slice_index, Bool, true, false, if◌then◌else◌}
+use Rattle.std.specs.Prelude.{ℕ, zero, suc, ◌+◌, ◌&&◌, ◌==◌, nat_lt, not, List, [], ◌∷◌, length, map, slice_index, Bool, if◌then◌else◌}
 
 -- this character stands there
 abbrev pub stands : List ℕ → ℕ → ℕ → Bool

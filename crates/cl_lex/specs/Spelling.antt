@@ -1,6 +1,6 @@
 -- What the tokens, the comments and the white space of a text are spelled with (N1570 6.4). `cs` are the characters of a
 -- text after phases 1 and 2, and what is spoken of lies from one of them up to, and without, another, counted from 0.
-use Rattle.std.specs.Prelude.{◌≡◌, ◌≢◌, ◌⊎◌, ℕ, zero, suc, ◌+◌, ◌-◌, ◌<◌, ◌≤◌, ◌&&◌, ◌||◌, ◌==◌, List, [], ◌∷◌, length, slice_index, Bool, true, false, not, if◌then◌else◌, option_copied, Option, Some, None}
+use Rattle.std.specs.Prelude.{◌≡◌, ◌≢◌, ◌⊎◌, ℕ, zero, suc, ◌+◌, ◌-◌, ◌<◌, ◌≤◌, ◌&&◌, ◌||◌, ◌==◌, List, length, slice_index, Bool, true, false, not, if◌then◌else◌}
 use Rattle.cl_lex.specs.Bytes.{is_blank, is_digit, is_exponent, is_name_byte, is_name_start, is_sign}
 use Rattle.cl_lex.specs.Source.{stands}
 

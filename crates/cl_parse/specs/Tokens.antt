@@ -1,5 +1,5 @@
 -- A token by its index, from 0. Past the end there is none: it spells nothing and lies nowhere.
-use Rattle.std.specs.Prelude.{ℕ, ◌<◌, ◌≤◌, List, [], ◌∷◌, Bool, true, false, Option, Some, None, slice_get}
+use Rattle.std.specs.Prelude.{ℕ, List, [], Bool, true, false, Option, Some, None, slice_get}
 use Rattle.cl_base.specs.declared.token.Kind.{Kind}
 use Rattle.cl_base.specs.declared.token.Kind.TheVariants.{Ident}
 use Rattle.cl_base.specs.declared.token.Span.{Span}

@@ -1,5 +1,5 @@
 -- The tokens of a document lie one after the other.
-use Rattle.std.proofs.Common.{◌≡◌, ℕ, ◌<◌, ◌≤◌, ◌+◌, suc, zero, List, [], ◌∷◌, arith, length, subst, sym, ◌∙◌}
+use Rattle.std.proofs.Common.{◌≡◌, ℕ, ◌<◌, ◌≤◌, suc, zero, List, [], ◌∷◌, arith, length, subst, sym, ◌∙◌}
 use Rattle.cl_base.specs.declared.token.Token.{Token}
 use Rattle.cl_base.specs.declared.token.PpToken.{PpToken}
 use Rattle.cl_lex.specs.Order.{AreInOrder}
