@@ -1,5 +1,5 @@
 -- What a body is: JSON-RPC 2.0, sections 4 and 5, with the methods of LSP 3.17 that are known.
-use Rattle.std.specs.Prelude.{ℕ, ℤ, negsuc, ◌==◌, ◌&&◌, ◌||◌, nat_eq, List, Bool, true, false, if◌then◌else◌, Option, Some, None, codes, option_map, option_and_then, is_some}
+use Rattle.std.specs.Prelude.{ℕ, ℤ, negsuc, ◌&&◌, nat_eq, List, Bool, true, false, if◌then◌else◌, Option, Some, None, codes, option_map, option_and_then, is_some}
 use Rattle.std.specs.Str.{is_utf8, bytes_eq}
 use Rattle.std.specs.List.{starts_with}
 use Rattle.serde_json.specs.Data.{Data, null, boolean, number, string, array, object, Items, no_items, item}
