@@ -23,7 +23,7 @@ use Rattle.cl_core.proofs.Onto.{onto, unchanged}
 use Rattle.cl_core.proofs.Accepting.{initialised_after, shut_down_after}
 use Rattle.cl_core.proofs.Dues.{said_is, number_of, due_of, new_past, owed_first, waits_if_pending}
 use Rattle.cl_core.proofs.Following.{marks_of, replies_follow, none_left_due}
-use Rattle.cl_core.proofs.Pending.{still_pending}
+use Rattle.cl_core.proofs.StillPending.{still_pending}
 use Rattle.cl_core.proofs.Asking.{all_ask}
 
 -- ---- a session that is shut down was initialised

@@ -8,3 +8,4 @@ pub mod Standing
 pub mod Steps
 pub mod Once
 pub mod Runs
+pub mod Indexes

@@ -6,6 +6,7 @@ mod core_state;
 mod edits;
 mod ending;
 mod event;
+mod index;
 mod job_end;
 mod laws;
 mod note;
