@@ -19,3 +19,4 @@ pub mod Times
 pub mod Once
 pub mod Running
 pub mod Putting
+pub mod Indexed

@@ -22,7 +22,7 @@ use Rattle.cl_core.specs.Indexes.{messages_on}
 
 -- ---- the test by bytes
 
-same_bytes : (s t : List ℕ) → bytes_eq s t ≡ true → s ≡ t
+pub same_bytes : (s t : List ℕ) → bytes_eq s t ≡ true → s ≡ t
 same_bytes s t e = (bytes_eq-Decides s t).0 e
 
 found_bytes : (s t : List ℕ) → is_eq (slice_cmp nat_cmp s t) ≡ true → s ≡ t
@@ -103,7 +103,7 @@ group_becomes old new path f h q = h q ∙ at_path_by (bytes_eq path q) old f pa
 less : (a b : ℕ) → a < b → nat_cmp a b ≡ Less
 less a b lt = sym (nat_cmp_is a b Less lt)
 
-greater : (a b : ℕ) → b < a → nat_cmp a b ≡ Greater
+pub greater : (a b : ℕ) → b < a → nat_cmp a b ≡ Greater
 greater a b lt = sym (nat_cmp_is a b Greater lt)
 
 equal : (a b : ℕ) → a ≡ b → nat_cmp a b ≡ Equal
@@ -113,7 +113,7 @@ pub put_last : (ns : List ℕ) (n : ℕ) → AllByRecursion (λ m. m < n) ns →
 put_last [] n all = refl
 put_last (m ∷ ns) n all = rw (greater n m all.0) (ap (λ (ms : List ℕ). m ∷ ms) (put_last ns n all.1))
 
-nat_eq_flip : (n m : ℕ) → nat_eq n m ≡ nat_eq m n
+pub nat_eq_flip : (n m : ℕ) → nat_eq n m ≡ nat_eq m n
 nat_eq_flip n m = both_ways (nat_eq n m) (nat_eq m n) (λ e. eq-eqb m n (sym (eqb-true n m e))) (λ e. eq-eqb n m (sym (eqb-true m n e)))
 
 pub is_at_number : (n m : ℕ) → is_eq (nat_cmp n m) ≡ nat_eq m n

@@ -1,6 +1,6 @@
 //! Where the requests that wait are found: by their ids, and by their documents.
 
-ghost use Rattle.std.specs.Prelude.{◌≡◌, List, ℕ, ◌∷◌, [], ◌++◌, ◌<◌, None, Some, OnOk, OnErr, if◌then◌else◌, length, slice_get};
+ghost use Rattle.std.specs.Prelude.{◌≡◌, List, ℕ, ◌∷◌, [], ◌++◌, ◌<◌, None, Some, OnOk, OnErr, IfOk, if◌then◌else◌, length, slice_get};
 ghost use Rattle.std.specs.List.{AllByRecursion};
 ghost use Rattle.std.specs.Str.{bytes_eq};
 ghost use Rattle.cl_rpc.specs.declared.id.Id.{Id};
@@ -107,6 +107,19 @@ impl Documents {
             Some(group) => group.first().copied(),
             None => None,
         }
+    }
+
+    /// The messages on a document, in order.
+    pub fn all(&self, alloc: Global, path: &Path) -> Mem<Vec<u64>>
+        ensures { IfOk result (λ all. all.items ≡ messages_on self.now path.now) }
+    {
+        let mut all = Vec::new(alloc);
+        if let Some(group) = self.groups.get(path) {
+            for message in group {
+                all.push(*message)?;
+            }
+        }
+        Ok(all)
     }
 
     /// Puts a message last on a document, or changes nothing.

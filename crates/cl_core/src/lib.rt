@@ -10,6 +10,7 @@ mod index;
 mod job_end;
 mod laws;
 mod note;
+mod pending;
 mod refusal;
 mod replies;
 mod start;

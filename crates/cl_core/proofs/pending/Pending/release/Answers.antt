@@ -1,0 +1,24 @@
+use Rattle.std.proofs.Common.{◌≡◌, ◌⊎◌, refl, sym, ap, ◌∙◌, subst, rules, List, ℕ, ◌<◌, ◌∷◌, [], ◌++◌, map, filter, take, drop, length, not, arith, false, true, nat_eq, if◌then◌else◌}
+use Rattle.std.proofs.lemmas.List.{length-map, map-append}
+use Rattle.std.specs.Prelude.{option_to_list, option_map, Some, None, is_some, slice_get, IfSome, Contains}
+use Rattle.std.specs.List.{AllByRecursion, list_any}
+use Rattle.std.specs.BTreeMap.{values}
+use Rattle.cl_core.specs.declared.waiting.Waiting.{Waiting}
+use Rattle.cl_core.specs.Waiting.{has_id, same_id, is_meant}
+use Rattle.cl_core.specs.Indexes.{message_by, messages_on, number_of, found_in}
+use Rattle.cl_core.proofs.Indexed.{Entries, at_number, some_meant, numbers_at, head_of, all_meant, alone, found_all, gathered, the_one, none_of, contains_one, passed_over, fewer, none_meant}
+use Rattle.cl_core.proofs.pending.Pending.release.Goals as goal
+
+pub loop-message-smaller : goal.loop-message-smaller
+loop-message-smaller c =
+    rw c.remove.ensures (fewer (is_meant c.args.which.now) c.in-Some.message c.loop-message.self (sym c.in-Some.is ∙ c.first.ensures.first))
+
+pub loop-message-preserved : goal.loop-message-preserved
+loop-message-preserved c =
+    let alone : AllByRecursion (λ (w : Waiting). nat_eq w.job.message c.in-Some.message ≡ true → is_meant c.args.which.now w ≡ true) c.loop-message.self = search rules in
+    rw c.remove.ensures (passed_over (is_meant c.args.which.now) c.in-Some.message c.loop-message.self alone ∙ c.loop-message.invariant)
+
+pub returns : goal.returns
+returns c =
+    let none : None ≡ slice_get (map number_of (filter (is_meant c.args.which.now) c.loop-message.self)) 0 = search rules in
+    sym (none_meant (is_meant c.args.which.now) c.loop-message.self none) ∙ c.loop-message.invariant
