@@ -20,3 +20,4 @@ pub mod Once
 pub mod Running
 pub mod Putting
 pub mod Indexed
+pub mod Numbering

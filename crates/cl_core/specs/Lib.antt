@@ -9,3 +9,4 @@ pub mod Steps
 pub mod Once
 pub mod Runs
 pub mod Indexes
+pub mod Numbered
