@@ -21,3 +21,5 @@ pub mod Running
 pub mod Putting
 pub mod Indexed
 pub mod Numbering
+pub mod Started
+pub mod Finishing

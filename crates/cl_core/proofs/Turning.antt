@@ -34,20 +34,20 @@ job_of w = w.job
 
 -- ---- the jobs and the end among the effects
 
-jobs_after_replies : (rs : List Reply) (es : List Effect) → jobs_of (map effect.Reply rs ++ es) ≡ jobs_of es
+pub jobs_after_replies : (rs : List Reply) (es : List Effect) → jobs_of (map effect.Reply rs ++ es) ≡ jobs_of es
 jobs_after_replies [] es = refl
 jobs_after_replies (r ∷ rs) es = jobs_after_replies rs es
 
-jobs_started : (ws : List Waiting) (es : List Effect) → jobs_of (start_jobs ws ++ es) ≡ map job_of ws ++ jobs_of es
+pub jobs_started : (ws : List Waiting) (es : List Effect) → jobs_of (start_jobs ws ++ es) ≡ map job_of ws ++ jobs_of es
 jobs_started [] es = refl
 jobs_started (w ∷ ws) es = ap (λ (jobs : List Job). w.job ∷ jobs) (jobs_started ws es)
 
-no_jobs_of_finish : (o : Option ℕ) (none_left : Bool) → jobs_of (finish_if o none_left) ≡ []
+pub no_jobs_of_finish : (o : Option ℕ) (none_left : Bool) → jobs_of (finish_if o none_left) ≡ []
 no_jobs_of_finish None none_left = refl
 no_jobs_of_finish (Some status) true = refl
 no_jobs_of_finish (Some status) false = refl
 
-finish_after_replies : (rs : List Reply) (es : List Effect) → finish_of (map effect.Reply rs ++ es) ≡ finish_of es
+pub finish_after_replies : (rs : List Reply) (es : List Effect) → finish_of (map effect.Reply rs ++ es) ≡ finish_of es
 finish_after_replies [] es = refl
 finish_after_replies (r ∷ rs) es = finish_after_replies rs es
 
@@ -124,7 +124,7 @@ exit_starts_none core (parsed.Notification c) e = refl
 exit_starts_none core (parsed.Refused i code) e = refl
 exit_starts_none core parsed.Ignored e = refl
 
-exit_keeps : (p : Parsed) (accepted before : Bool) → is_exit p ≡ true → ((shuts_down p && accepted) || before) ≡ before
+pub exit_keeps : (p : Parsed) (accepted before : Bool) → is_exit p ≡ true → ((shuts_down p && accepted) || before) ≡ before
 exit_keeps (parsed.Request i c) accepted before e = absurd (cc)
 exit_keeps (parsed.Notification c) accepted before e = refl
 exit_keeps (parsed.Refused i code) accepted before e = refl

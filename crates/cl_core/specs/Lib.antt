@@ -10,3 +10,5 @@ pub mod Once
 pub mod Runs
 pub mod Indexes
 pub mod Numbered
+pub mod Jobs
+pub mod Ends
