@@ -83,7 +83,7 @@ all_left_waiting P core (call.Symbols path) all = all
 all_left_waiting P core call.Unknown all = all
 all_left_waiting P core (call.BadParams b) all = all
 
-all_left : (P : Waiting → Type 0) (core : Core) (p : Parsed) → AllByRecursion P core.pending → AllByRecursion P (left_by core p)
+pub all_left : (P : Waiting → Type 0) (core : Core) (p : Parsed) → AllByRecursion P core.pending → AllByRecursion P (left_by core p)
 all_left P core (parsed.Request i c) all = all
 all_left P core (parsed.Notification c) all = all_if P core.initialised (left_waiting core c) core.pending (all_left_waiting P core c all) all
 all_left P core parsed.Ignored all = all

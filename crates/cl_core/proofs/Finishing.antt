@@ -30,11 +30,11 @@ use Rattle.cl_core.proofs.Turning.{finish_after_replies, exit_keeps}
 use Rattle.cl_core.proofs.Running.{by_finished, starts, goes_run}
 
 -- the status with which a core is over
-abbrev over_of : Core → Option ℕ
+abbrev pub over_of : Core → Option ℕ
 over_of core = if is_nil core.pending then core.ending else None
 
 -- what a core keeps of the events that were put to it
-record Keeps (messages : List Parsed) (puts : List Put) (core : Core) : Type 0 where
+pub record Keeps (messages : List Parsed) (puts : List Put) (core : Core) : Type 0 where
   pub first : first_status messages puts ≡ core.ending
   pub is_over : over messages puts ≡ over_of core
   pub finished : core.finished ≡ is_some (over_of core)
@@ -231,7 +231,7 @@ keeps_fresh messages fresh idle = record {
   finished = idle.not_over ∙ sym (ap is_some (idle_over fresh idle.goes_on));
 }
 
-ends_run : (messages : List Parsed) (puts : List Put) (fresh core : Core) → StandsFor messages fresh → journal_of fresh ≡ [] → IsIdle fresh → Runs messages fresh puts core
+pub ends_run : (messages : List Parsed) (puts : List Put) (fresh core : Core) → StandsFor messages fresh → journal_of fresh ≡ [] → IsIdle fresh → Runs messages fresh puts core
     → Keeps messages puts core × EndsOnce messages puts
 ends_run messages [] fresh core stands none idle run = (subst (Keeps messages []) (sym run) (keeps_fresh messages fresh idle), tt)
 ends_run messages (put ∷ past) fresh core stands none idle (before, runs, takes) =

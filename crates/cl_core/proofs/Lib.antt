@@ -23,3 +23,4 @@ pub mod Indexed
 pub mod Numbering
 pub mod Started
 pub mod Finishing
+pub mod JobsOut

@@ -23,6 +23,7 @@ use Rattle.cl_core.specs.Waiting.{same_id}
 use Rattle.cl_core.specs.Deciding.{waiting_for, started_if, started_by, left_waiting, core_refusal}
 use Rattle.cl_core.specs.Steps.{IsAsBefore, Steps, StepsOn, Takes, Completes, Stops, left_by}
 use Rattle.cl_core.specs.Numbered.{IsNumbered}
+use Rattle.cl_core.proofs.Asking.{all_left}
 
 abbrev pub Below : ℕ → List Waiting → Type 0
 Below n ws = AllByRecursion (λ (w : Waiting). w.job.message < n) ws
@@ -47,35 +48,11 @@ kept : (p : Waiting → Bool) (n : ℕ) (ws : List Waiting) → Below n ws → B
 kept p n [] below = tt
 kept p n (w ∷ ws) below = below_if (p w) n w (filter p ws) below.0 (kept p n ws below.1)
 
-kept_if : (b : Bool) (n : ℕ) (us ws : List Waiting) → Below n us → Below n ws → Below n (if b then us else ws)
-kept_if true n us ws h k = h
-kept_if false n us ws h k = k
-
 joined : (n : ℕ) (us ws : List Waiting) → Below n us → Below n ws → Below n (us ++ ws)
 joined n [] ws h k = k
 joined n (u ∷ us) ws h k = (h.0, joined n us ws h.1 k)
 
 -- ---- a message
-
-left_below : (core : State) (c : Call) (n : ℕ) → Below n core.pending → Below n (left_waiting core c)
-left_below core (call.Cancel i) n below = kept (λ w. not (same_id i w.id)) n core.pending below
-left_below core (call.DidOpen path version text) n below = kept (λ w. not (bytes_eq w.job.path path)) n core.pending below
-left_below core (call.DidChange path version (Some text)) n below =
-    kept_if (is_some (doc_at core.docs path)) n (filter (λ w. not (bytes_eq w.job.path path)) core.pending) core.pending (kept (λ w. not (bytes_eq w.job.path path)) n core.pending below) below
-left_below core (call.DidChange path version None) n below = below
-left_below core call.Initialize n below = below
-left_below core call.Shutdown n below = below
-left_below core call.Exit n below = below
-left_below core (call.DidClose path) n below = below
-left_below core (call.Symbols path) n below = below
-left_below core call.Unknown n below = below
-left_below core (call.BadParams b) n below = below
-
-left_by_below : (core : State) (p : Parsed) (n : ℕ) → Below n core.pending → Below n (left_by core p)
-left_by_below core (parsed.Notification c) n below = kept_if core.initialised n (left_waiting core c) core.pending (left_below core c n below) below
-left_by_below core (parsed.Request i c) n below = below
-left_by_below core (parsed.Refused i code) n below = below
-left_by_below core parsed.Ignored n below = below
 
 waiting_below : (core : State) (i : Id) (path : List ℕ) (o : Option Doc) → Below (core.messages + 1) (waiting_for core i path o)
 waiting_below core i path None = tt
@@ -106,7 +83,7 @@ numbered_as new n ws e f below = subst (λ (m : ℕ). Below m new.pending) (sym 
 message_numbered : (old new : State) (p : Parsed) (effects : List Effect) → Takes old p new effects → IsNumbered old → IsNumbered new
 message_numbered old new p effects takes numbered =
     numbered_as new (old.messages + 1) _ takes.messages takes.pending
-    (joined (old.messages + 1) (left_by old p) (started_by old p) (raised old.messages (old.messages + 1) (left_by old p) (omega arith) (left_by_below old p old.messages numbered)) (started_below old p))
+    (joined (old.messages + 1) (left_by old p) (started_by old p) (raised old.messages (old.messages + 1) (left_by old p) (omega arith) (all_left (λ (w : Waiting). w.job.message < old.messages) old p numbered)) (started_below old p))
 
 -- ---- a step
 

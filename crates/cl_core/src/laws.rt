@@ -29,4 +29,6 @@ pub fn any_run()
         → StandsFor messages fresh → journal_of fresh ≡ [] → Runs messages fresh puts core → AllStarted messages puts }
     ensures ends { (messages : List Parsed) (puts : List Put) (fresh core : Core)
         → StandsFor messages fresh → journal_of fresh ≡ [] → IsIdle fresh → Runs messages fresh puts core → EndsOnce messages puts }
+    ensures out { (messages : List Parsed) (puts : List Put) (fresh core : Core)
+        → StandsFor messages fresh → journal_of fresh ≡ [] → IsIdle fresh → Runs messages fresh puts core → EachHasOneOut messages puts }
 {}
