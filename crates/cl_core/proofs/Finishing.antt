@@ -10,7 +10,6 @@ use Rattle.cl_rpc.specs.declared.call.Parsed.{Parsed}
 use Rattle.cl_rpc.specs.declared.call.Parsed.TheVariants as parsed
 use Rattle.cl_rpc.specs.declared.out.How.{How}
 use Rattle.cl_rpc.specs.declared.out.Out.{Out}
-use Rattle.cl_rpc.specs.declared.out.Reply.{Reply}
 use Rattle.cl_core.specs.declared.core_state.Core.{Core}
 use Rattle.cl_core.specs.declared.event.Entry.{Entry}
 use Rattle.cl_core.specs.declared.event.Event.{Event}
@@ -22,12 +21,12 @@ use Rattle.cl_core.specs.declared.event.Effect.TheVariants as effect
 use Rattle.cl_core.specs.declared.waiting.Waiting.{Waiting}
 use Rattle.cl_core.specs.History.{is_shut_down, pending}
 use Rattle.cl_core.specs.Deciding.{replies_of, started_by}
-use Rattle.cl_core.specs.Steps.{Takes, Replies, Completes, Stops, Steps, StepsOn, IsAsBefore, finish_if, first_ending, status_of, ending_after, left_after, pending_after, is_nil, is_exit, is_accepted, start_jobs}
-use Rattle.cl_core.specs.Standing.{IsIdle, StandsFor, finish_of, journal_of, past_of}
+use Rattle.cl_core.specs.Steps.{Takes, Completes, Stops, Steps, StepsOn, IsAsBefore, finish_if, first_ending, status_of, ending_after, left_after, pending_after, is_nil, is_exit, is_accepted, start_jobs}
+use Rattle.cl_core.specs.Standing.{IsIdle, StandsFor, finish_of, journal_of}
 use Rattle.cl_core.specs.Runs.{Put, TakesPut, Runs}
 use Rattle.cl_core.specs.Ends.{status_by, status_of_put, earlier_or, first_status, over, EndsAs, EndsOnce}
 use Rattle.cl_core.proofs.Turning.{finish_after_replies, exit_keeps}
-use Rattle.cl_core.proofs.Running.{by_finished, starts, goes_run}
+use Rattle.cl_core.proofs.Running.{starts, goes_run}
 
 -- the status with which a core is over
 abbrev pub over_of : Core → Option ℕ
@@ -111,7 +110,7 @@ end_is_some false o s = refl
 
 ends_none : (o : Option ℕ) → EndsAs o o []
 ends_none None = refl
-ends_none (Some s) = refl
+ends_none (Some s) = (refl, refl)
 
 ends_with : (b : Bool) (o : Option ℕ) (front effects : List Effect) → finish_of front ≡ None → effects ≡ front ++ finish_if o b → EndsAs None (if b then o else None) effects
 ends_with true None front effects none e = ap finish_of (e ∙ append-nil front) ∙ none
@@ -166,7 +165,7 @@ job_moves : (old new : Core) (job : Job) (mark : ℕ) (h : How) (o : Out) (effec
     → Moves old new None effects
 job_moves old new job mark h o effects goes_on finished c = ⊎_elim
     (λ r. moves_as old new None old.ending (left_after old job.message) (effect.Reply _ ∷ []) effects goes_on r.pending r.ending (sym (or_none old.ending))
-      (r.finished ∙ some_over (is_nil (left_after old job.message)) old.ending) refl r.effects_are)
+    (r.finished ∙ some_over (is_nil (left_after old job.message)) old.ending) refl r.effects_are)
     (λ q. moves_not old new None effects (ap (λ (core : Core). core.pending) q.1) (ap (λ (core : Core). core.ending) q.1) (ap (λ (core : Core). core.finished) q.1) finished (or_none old.ending) q.2)
     c
 
@@ -212,10 +211,11 @@ keeps_more messages put past old new keeps stands takes =
     let none : is_nil (pending messages (reverse put.journal)) ≡ is_nil new.pending =
     ap (λ (j : List Entry). is_nil (pending messages (reverse j))) takes.told ∙ ap is_nil (sym stands.waiting) ∙ nil_mapped new.pending in
     let is : over messages (put ∷ past) ≡ over_of new =
-    ap (λ (b : Bool). if b then first_status messages (put ∷ past) else None) none ∙ ap (λ (o : Option ℕ). if is_nil new.pending then o else None) first in
-    (record { first = first; is_over = is; finished = moves.finished },
-    subst (λ (o : Option ℕ). EndsAs o (over messages (put ∷ past)) put.effects) (sym keeps.is_over)
-    (subst (λ (o : Option ℕ). EndsAs (over_of old) o put.effects) (sym is) moves.ends))
+    ap (λ (b : Bool). if b then first_status messages (put ∷ past) else None) none ∙ ap (λ (o : Option ℕ). if is_nil new.pending then o else None) first in (
+      record { first = first; is_over = is; finished = moves.finished },
+      subst (λ (o : Option ℕ). EndsAs o (over messages (put ∷ past)) put.effects) (sym keeps.is_over)
+          (subst (λ (o : Option ℕ). EndsAs (over_of old) o put.effects) (sym is) moves.ends),
+    )
 
 no_status : (b : Bool) → ◌≡◌ {A = Option ℕ} (if b then None else None) None
 no_status true = refl

@@ -1,5 +1,5 @@
 -- What stands in the indexes of those that wait.
-use Rattle.std.proofs.Common.{◌≡◌, ◌⊎◌, inl, inr, ◌≤◌, ◌<◌, ℕ, ℤ, ◌+◌, List, [], ◌∷◌, ◌++◌, map, filter, length, Bool, true, false, not, if◌then◌else◌, refl, sym, ap, ◌∙◌, subst, arith, nat_eq, eq-eqb, eqb-true, append-nil, append_assoc, drop, slice_index}
+use Rattle.std.proofs.Common.{◌≡◌, ◌⊎◌, inl, inr, ◌≤◌, ◌<◌, ℕ, ◌+◌, List, [], ◌∷◌, ◌++◌, map, filter, length, Bool, true, false, not, if◌then◌else◌, refl, sym, ap, ◌∙◌, subst, arith, nat_eq, eq-eqb, eqb-true, append-nil, append_assoc, drop, slice_index}
 use Rattle.std.specs.Prelude.{Option, Some, None, option_map, option_to_list, is_some, cond, unwrap_or, slice_get, IfSome, Contains, ◌||◌}
 use Rattle.std.proofs.lemmas.Bool.{ne_eqb, false≢true}
 use Rattle.std.proofs.lemmas.List.{map-append, drop_more}
@@ -9,7 +9,7 @@ use Rattle.std.proofs.lemmas.Map.Keys.{sorted_head, sorted_tail}
 use Rattle.std.specs.List.{AllByRecursion, list_any}
 use Rattle.std.specs.List.Sorted.{IsStrictlySortedBy}
 use Rattle.std.specs.Str.{bytes_eq}
-use Rattle.std.specs.Ordering.{nat_cmp, is_eq, int_eq}
+use Rattle.std.specs.Ordering.{nat_cmp, is_eq}
 use Rattle.std.specs.Cmp.{ranked, both_ways, signed_Decides}
 use Rattle.std.proofs.lemmas.Slice.Eq.{bytes_eq-Decides}
 use Rattle.std.specs.declared.cmp.Ordering.TheVariants.{Less}
@@ -24,7 +24,7 @@ use Rattle.cl_core.specs.History.{without}
 use Rattle.cl_core.specs.Waiting.{same_id, has_id}
 use Rattle.cl_core.specs.Steps.{is_nil}
 use Rattle.cl_core.specs.Indexes.{IsIndexed, number_of, message_by, messages_on, found_in}
-use Rattle.cl_core.proofs.Putting.{greater, is_at_number, same_bytes, nat_eq_flip}
+use Rattle.cl_core.proofs.Putting.{greater, is_at_number, same_bytes}
 use Rattle.cl_core.proofs.Waits.{map-filter, one_of, all_left}
 
 abbrev pub Entries : Type 0
@@ -231,10 +231,10 @@ pushed old new ids ids' documents documents' w indexed free below ordered is by 
       ordered = ordered;
       keyed = subst Keyed (sym (is ∙ put_at_end old.entries w.job.message w (keys_below w.job.message old.entries indexed.keyed below))) (keyed_more old.entries w indexed.keyed);
       by_id = λ i.
-        ap option_to_list (by i)
-        ∙ ap (λ (b : Bool). option_to_list (if b then Some w.job.message else message_by ids i)) (same_id_flip w.id i)
-        ∙ id_put (same_id i w.id) (message_by ids i) w (filter (λ v. same_id i v.id) ws) (indexed.by_id i) (none_has_as i w.id ws free)
-        ∙ passed (λ v. same_id i v.id);
+          ap option_to_list (by i)
+          ∙ ap (λ (b : Bool). option_to_list (if b then Some w.job.message else message_by ids i)) (same_id_flip w.id i)
+          ∙ id_put (same_id i w.id) (message_by ids i) w (filter (λ v. same_id i v.id) ws) (indexed.by_id i) (none_has_as i w.id ws free)
+          ∙ passed (λ v. same_id i v.id);
       by_document = λ q. on q ∙ document_put (bytes_eq w.job.path q) (messages_on documents q) w (filter (λ v. bytes_eq v.job.path q) ws) (indexed.by_document q) ∙ passed (λ v. bytes_eq v.job.path q);
     }
 
@@ -272,10 +272,10 @@ removed old new ids ids' documents documents' m w indexed there ordered is by on
       ordered = ordered;
       keyed = subst Keyed (sym is) (keyed_left m old.entries indexed.keyed);
       by_id = λ i.
-        ap option_to_list (by i)
-        ∙ ap (λ (b : Bool). option_to_list (if b then None else message_by ids i)) (same_id_flip w.id i)
-        ∙ id_gone (same_id i w.id) (λ v. same_id i v.id) (message_by ids i) m w ws refl one (indexed.by_id i)
-        ∙ passed (λ v. same_id i v.id);
+          ap option_to_list (by i)
+          ∙ ap (λ (b : Bool). option_to_list (if b then None else message_by ids i)) (same_id_flip w.id i)
+          ∙ id_gone (same_id i w.id) (λ v. same_id i v.id) (message_by ids i) m w ws refl one (indexed.by_id i)
+          ∙ passed (λ v. same_id i v.id);
       by_document = λ q. on q ∙ document_gone (bytes_eq w.job.path q) (λ v. bytes_eq v.job.path q) (messages_on documents q) m w ws refl one (indexed.by_document q) ∙ passed (λ v. bytes_eq v.job.path q);
     }
 
@@ -297,10 +297,10 @@ taken_back old new ids ids' ids'' documents documents'' w indexed free ordered i
       ordered = ordered;
       keyed = subst Keyed (sym is) indexed.keyed;
       by_id = λ i.
-        ap option_to_list (let_go i ∙ ap (λ (o : Option ℕ). if same_id w.id i then None else o) (put i))
-        ∙ ap (λ (b : Bool). option_to_list (if b then None else (if b then Some w.job.message else message_by ids i))) (same_id_flip w.id i)
-        ∙ id_back (same_id i w.id) w.job.message (message_by ids i) (filter (λ v. same_id i v.id) ws) (indexed.by_id i) (none_has_as i w.id ws free)
-        ∙ ap (λ (vs : List Waiting). map number_of (filter (λ v. same_id i v.id) vs)) same;
+          ap option_to_list (let_go i ∙ ap (λ (o : Option ℕ). if same_id w.id i then None else o) (put i))
+          ∙ ap (λ (b : Bool). option_to_list (if b then None else (if b then Some w.job.message else message_by ids i))) (same_id_flip w.id i)
+          ∙ id_back (same_id i w.id) w.job.message (message_by ids i) (filter (λ v. same_id i v.id) ws) (indexed.by_id i) (none_has_as i w.id ws free)
+          ∙ ap (λ (vs : List Waiting). map number_of (filter (λ v. same_id i v.id) vs)) same;
       by_document = λ q. on q ∙ indexed.by_document q ∙ ap (λ (vs : List Waiting). map number_of (filter (λ v. bytes_eq v.job.path q) vs)) same;
     }
 
@@ -397,9 +397,10 @@ later_keys n (e ∷ es) keyed above = (subst (λ (k : ℕ). nat_cmp n k ≡ Less
 
 all_stand : (es : Entries) → Keyed es → Sorted es → AllByRecursion (λ (w : Waiting). lookup (is_at (nat_cmp w.job.message)) es ≡ Some w) (values_of es)
 all_stand [] keyed s = tt
-all_stand (e ∷ es) keyed s =
-    (rw (at_test e.1.job.message e keyed.0, eq-eqb e.1.job.message e.1.job.message refl) refl,
-    later_stands e es (values_of es) (later_keys e.0 es keyed.1 (sorted_head nat_cmp e.0 (keys_of es) s)) (all_stand es keyed.1 (sorted_tail nat_cmp e.0 (keys_of es) s)))
+all_stand (e ∷ es) keyed s = (
+  rw (at_test e.1.job.message e keyed.0, eq-eqb e.1.job.message e.1.job.message refl) refl,
+  later_stands e es (values_of es) (later_keys e.0 es keyed.1 (sorted_head nat_cmp e.0 (keys_of es) s)) (all_stand es keyed.1 (sorted_tail nat_cmp e.0 (keys_of es) s)),
+)
 
 found_each : (waiting : BTreeMap ℕ Waiting) (ws : List Waiting) → AllByRecursion (λ (w : Waiting). get nat_cmp waiting w.job.message ≡ Some w) ws → found_in waiting (map number_of ws) ≡ ws
 found_each waiting [] all = refl

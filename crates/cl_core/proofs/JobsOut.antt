@@ -1,7 +1,7 @@
 -- Which jobs of a run are out.
-use Rattle.std.proofs.Common.{◌≡◌, ◌⊎◌, inl, inr, ⊎_elim, ℕ, ℤ, ◌<◌, ◌≤◌, ◌+◌, List, [], ◌∷◌, ◌++◌, length, map, filter, Bool, true, false, not, refl, sym, ap, ◌∙◌, subst, arith, cond, nat_eq, eq-eqb}
+use Rattle.std.proofs.Common.{◌≡◌, ◌⊎◌, inl, inr, ⊎_elim, ℕ, ℤ, ◌<◌, ◌≤◌, ◌+◌, List, [], ◌∷◌, ◌++◌, map, filter, Bool, true, false, not, refl, sym, ap, ◌∙◌, subst, arith, cond, nat_eq, eq-eqb}
 use Rattle.std.proofs.lemmas.Bool.{false≢true}
-use Rattle.std.proofs.lemmas.List.Elements.{All-contains_itself, recursion_from_All, Contains-push_cases}
+use Rattle.std.proofs.lemmas.List.Elements.{All-contains_itself, recursion_from_All}
 use Rattle.std.specs.Prelude.{Option, Some, None, Contains, is_some, reverse, if◌then◌else◌}
 use Rattle.std.specs.Bool.{MatchBool}
 use Rattle.std.specs.List.{AllByRecursion}
@@ -19,21 +19,19 @@ use Rattle.cl_core.specs.declared.core_state.Core.{Core}
 use Rattle.cl_core.specs.declared.event.Entry.{Entry}
 use Rattle.cl_core.specs.declared.event.Event.{Event}
 use Rattle.cl_core.specs.declared.event.Event.TheVariants as event
-use Rattle.cl_core.specs.declared.event.Ending.{Ending}
-use Rattle.cl_core.specs.declared.event.Effect.{Effect}
 use Rattle.cl_core.specs.declared.waiting.Waiting.{Waiting}
 use Rattle.cl_core.specs.History.{pending}
 use Rattle.cl_core.specs.Deciding.{core_refusal, started_by, started_if, waiting_for}
-use Rattle.cl_core.specs.Steps.{Takes, Replies, Completes, Stops, Steps, StepsOn, IsAsBefore, left_by, left_after, pending_after, is_nil}
-use Rattle.cl_core.specs.Standing.{IsIdle, StandsFor, jobs_of, journal_of, past_of}
-use Rattle.cl_core.specs.Runs.{Put, TakesPut, Runs}
+use Rattle.cl_core.specs.Steps.{Takes, Completes, Steps, StepsOn, IsAsBefore, left_by, left_after, is_nil}
+use Rattle.cl_core.specs.Standing.{IsIdle, StandsFor, jobs_of, journal_of}
+use Rattle.cl_core.specs.Runs.{Put, Runs}
 use Rattle.cl_core.specs.Jobs.{IsOut, IsEndOf, HasOneOut, EachHasOneOut}
 use Rattle.cl_core.proofs.Asking.{all_left}
 use Rattle.cl_core.proofs.Waits.{one_of}
 use Rattle.cl_core.proofs.Turning.{job_of, none_mapped}
 use Rattle.cl_core.proofs.Started.{jobs_by, no_jobs, no_jobs_at_end}
 use Rattle.cl_core.proofs.Running.{starts, goes_run}
-use Rattle.cl_core.proofs.Finishing.{Keeps, over_of, ends_run}
+use Rattle.cl_core.proofs.Finishing.{over_of, ends_run}
 
 -- a job is out, and no other of its message
 abbrev IsOnly : List Put → Job → Type 0
@@ -93,9 +91,10 @@ keep_each : (put : Put) (past : List Put) (n m : ℕ) (ws : List Waiting) → n 
     → AllByRecursion (Works past n) ws → AllByRecursion (GoesOn put) ws → AllByRecursion (Works (put ∷ past) m) ws
 keep_each put past n m [] le later each goes_on = tt
 keep_each put past n m (w ∷ ws) le later each goes_on =
-    let lt : w.job.message < n = each.0.1 in
-    ((kept_only put past w.job each.0.0 goes_on.0 (λ other same h. let ge : n ≤ other.message = later other h in absurd (omega (arith, same))), omega arith),
-    keep_each put past n m ws le later each.1 goes_on.1)
+    let lt : w.job.message < n = each.0.1 in (
+      (kept_only put past w.job each.0.0 goes_on.0 (λ other same h. let ge : n ≤ other.message = later other h in absurd (omega (arith, same))), omega arith),
+      keep_each put past n m ws le later each.1 goes_on.1,
+    )
 
 -- nothing is started
 holds_on : (put : Put) (past : List Put) (old new : Core) (ws : List Waiting) → Holds past old → jobs_of put.effects ≡ [] → new.messages ≡ old.messages → new.pending ≡ ws
@@ -103,8 +102,8 @@ holds_on : (put : Put) (past : List Put) (old new : Core) (ws : List Waiting) �
 holds_on put past old new ws holds none same is each goes_on = record {
   below = λ job out. subst (λ (n : ℕ). job.message < n) (sym same) (⊎_elim (λ h. absurd (none_in (jobs_of put.effects) job none h)) (λ q. holds.below job q.0) out);
   each = subst (λ (n : ℕ). AllByRecursion (Works (put ∷ past) n) new.pending) (sym same)
-    (subst (AllByRecursion (Works (put ∷ past) old.messages)) (sym is)
-    (keep_each put past old.messages old.messages ws (omega arith) (λ job h. absurd (none_in (jobs_of put.effects) job none h)) each goes_on));
+      (subst (AllByRecursion (Works (put ∷ past) old.messages)) (sym is)
+      (keep_each put past old.messages old.messages ws (omega arith) (λ job h. absurd (none_in (jobs_of put.effects) job none h)) each goes_on));
 }
 
 -- ---- a message
@@ -140,24 +139,24 @@ message_holds put past old new p holds takes goes_on =
     let left : AllByRecursion (Works past n) (left_by old p) = all_left (Works past n) old p holds.each in
     let Here : Type 0 = ((job : Job) → Contains (jobs_of put.effects) job → job.message ≡ n) × AllByRecursion (Works (put ∷ past) (n + 1)) (started_by old p) in
     let here : Here = ⊎_elim
-      (λ none. (λ job h. absurd (none_in (jobs_of put.effects) job (jobs ∙ ap (map job_of) none) h), subst (AllByRecursion (Works (put ∷ past) (n + 1))) (sym none) tt))
-      (λ one.
-        let w = one.0 in
-        let is : jobs_of put.effects ≡ w.job ∷ [] = jobs ∙ ap (map job_of) one.1 in
-        let number : w.job.message ≡ n = one.2 in
-        let among : Contains (jobs_of put.effects) w.job = subst (λ (js : List Job). Contains js w.job) (sym is) (0, omega arith, refl) in
-        let only : IsOnly (put ∷ past) w.job =
-        (inl among, λ other same out. ⊎_elim (λ h. the_one_in (jobs_of put.effects) w.job other is h) (λ q. let lt : other.message < n = holds.below other q.0 in absurd (omega (arith, same, number))) out) in
-        (λ job h. ap (λ (j : Job). j.message) (the_one_in (jobs_of put.effects) w.job job is h) ∙ number, subst (AllByRecursion (Works (put ∷ past) (n + 1))) (sym one.1) ((only, omega (arith, number)), tt)))
-      (few_started old p) in
+    (λ none. (λ job h. absurd (none_in (jobs_of put.effects) job (jobs ∙ ap (map job_of) none) h), subst (AllByRecursion (Works (put ∷ past) (n + 1))) (sym none) tt))
+    (λ one.
+    let w = one.0 in
+    let is : jobs_of put.effects ≡ w.job ∷ [] = jobs ∙ ap (map job_of) one.1 in
+    let number : w.job.message ≡ n = one.2 in
+    let among : Contains (jobs_of put.effects) w.job = subst (λ (js : List Job). Contains js w.job) (sym is) (0, omega arith, refl) in
+    let only : IsOnly (put ∷ past) w.job =
+    (inl among, λ other same out. ⊎_elim (λ h. the_one_in (jobs_of put.effects) w.job other is h) (λ q. let lt : other.message < n = holds.below other q.0 in absurd (omega (arith, same, number))) out) in
+    (λ job h. ap (λ (j : Job). j.message) (the_one_in (jobs_of put.effects) w.job job is h) ∙ number, subst (AllByRecursion (Works (put ∷ past) (n + 1))) (sym one.1) ((only, omega (arith, number)), tt)))
+    (few_started old p) in
     record {
       below = λ job out. subst (λ (m : ℕ). job.message < m) (sym takes.messages)
-        (⊎_elim (λ h. let e : job.message ≡ n = here.0 job h in omega arith) (λ q. let lt : job.message < n = holds.below job q.0 in omega arith) out);
+          (⊎_elim (λ h. let e : job.message ≡ n = here.0 job h in omega arith) (λ q. let lt : job.message < n = holds.below job q.0 in omega arith) out);
       each = subst (λ (m : ℕ). AllByRecursion (Works (put ∷ past) m) new.pending) (sym takes.messages)
-        (subst (AllByRecursion (Works (put ∷ past) (n + 1))) (sym takes.pending)
-        (joined (Works (put ∷ past) (n + 1)) (left_by old p) (started_by old p)
-        (keep_each put past n (n + 1) (left_by old p) (omega arith) (λ job h. let e : job.message ≡ n = here.0 job h in omega arith) left (each_so (GoesOn put) (left_by old p) goes_on))
-        here.1));
+          (subst (AllByRecursion (Works (put ∷ past) (n + 1))) (sym takes.pending)
+          (joined (Works (put ∷ past) (n + 1)) (left_by old p) (started_by old p)
+          (keep_each put past n (n + 1) (left_by old p) (omega arith) (λ job h. let e : job.message ≡ n = here.0 job h in omega arith) left (each_so (GoesOn put) (left_by old p) goes_on))
+          here.1));
     }
 
 -- ---- the end of a job
@@ -171,13 +170,13 @@ end_holds put past old new job mark h o holds c ends =
     let none = no_jobs old new job mark h o put.effects c in
     ⊎_elim
     (λ r.
-      let passed = passing (Works past old.messages) (λ w. not (nat_eq w.job.message job.message)) old.pending holds.each in
-      holds_on put past old new (left_after old job.message) holds none r.messages r.pending
-      (weaker (λ w. Works past old.messages w × (not (nat_eq w.job.message job.message) ≡ true)) (Works past old.messages) (left_after old job.message) (λ w q. q.0) passed)
-      (weaker (λ w. Works past old.messages w × (not (nat_eq w.job.message job.message) ≡ true)) (GoesOn put) (left_after old job.message) (λ w q taken e. other_number 0 w job q.1 (ends w.job e)) passed))
+    let passed = passing (Works past old.messages) (λ w. not (nat_eq w.job.message job.message)) old.pending holds.each in
+    holds_on put past old new (left_after old job.message) holds none r.messages r.pending
+    (weaker (λ w. Works past old.messages w × (not (nat_eq w.job.message job.message) ≡ true)) (Works past old.messages) (left_after old job.message) (λ w q. q.0) passed)
+    (weaker (λ w. Works past old.messages w × (not (nat_eq w.job.message job.message) ≡ true)) (GoesOn put) (left_after old job.message) (λ w q taken e. other_number 0 w job q.1 (ends w.job e)) passed))
     (λ q.
-      holds_on put past old new old.pending holds none (ap (λ (core : Core). core.messages) q.1) (ap (λ (core : Core). core.pending) q.1) holds.each
-      (weaker (Contains old.pending) (GoesOn put) old.pending (λ w among taken e. q.0 w among (sym (ends w.job e))) (recursion_from_All (Contains old.pending) old.pending (All-contains_itself old.pending))))
+    holds_on put past old new old.pending holds none (ap (λ (core : Core). core.messages) q.1) (ap (λ (core : Core). core.pending) q.1) holds.each
+    (weaker (Contains old.pending) (GoesOn put) old.pending (λ w among taken e. q.0 w among (sym (ends w.job e))) (recursion_from_All (Contains old.pending) old.pending (All-contains_itself old.pending))))
     c
   where
     weaker : (P Q : Waiting → Type 0) (ws : List Waiting) → ((w : Waiting) → P w → Q w) → AllByRecursion P ws → AllByRecursion Q ws

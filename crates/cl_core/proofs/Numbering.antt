@@ -1,8 +1,7 @@
 -- The messages of those that wait were received.
-use Rattle.std.proofs.Common.{◌≡◌, ⊎_elim, ℕ, ℤ, ◌<◌, ◌≤◌, ◌+◌, List, [], ◌∷◌, ◌++◌, Bool, true, false, refl, sym, ap, ◌∙◌, subst, arith, cond}
-use Rattle.std.specs.Prelude.{Option, Some, None, is_some, nat_eq, not, filter, if◌then◌else◌}
+use Rattle.std.proofs.Common.{◌≡◌, ⊎_elim, ℕ, ℤ, ◌<◌, ◌≤◌, ◌+◌, List, [], ◌∷◌, ◌++◌, Bool, true, false, sym, ap, subst, arith, cond}
+use Rattle.std.specs.Prelude.{Option, Some, None, nat_eq, not, filter}
 use Rattle.std.specs.List.{AllByRecursion}
-use Rattle.std.specs.Str.{bytes_eq}
 use Rattle.std.specs.Bool.{MatchBool}
 use Rattle.cl_store.specs.declared.docs.Doc.{Doc}
 use Rattle.cl_store.specs.Docs.{doc_at}
@@ -19,9 +18,8 @@ use Rattle.cl_core.specs.declared.event.Event.{Event}
 use Rattle.cl_core.specs.declared.event.Event.TheVariants as event
 use Rattle.cl_core.specs.declared.event.Effect.{Effect}
 use Rattle.cl_core.specs.declared.waiting.Waiting.{Waiting}
-use Rattle.cl_core.specs.Waiting.{same_id}
-use Rattle.cl_core.specs.Deciding.{waiting_for, started_if, started_by, left_waiting, core_refusal}
-use Rattle.cl_core.specs.Steps.{IsAsBefore, Steps, StepsOn, Takes, Completes, Stops, left_by}
+use Rattle.cl_core.specs.Deciding.{waiting_for, started_if, started_by, core_refusal}
+use Rattle.cl_core.specs.Steps.{IsAsBefore, Steps, StepsOn, Takes, Completes, left_by}
 use Rattle.cl_core.specs.Numbered.{IsNumbered}
 use Rattle.cl_core.proofs.Asking.{all_left}
 

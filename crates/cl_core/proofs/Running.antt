@@ -1,11 +1,10 @@
 -- A core over whole runs of events.
-use Rattle.std.proofs.Common.{◌≡◌, inl, inr, ℕ, List, [], ◌∷◌, ◌++◌, Bool, true, false, refl, sym, ap, subst, ◌∙◌, append-nil, append_assoc, MatchBool}
+use Rattle.std.proofs.Common.{◌≡◌, ℕ, List, [], ◌∷◌, ◌++◌, Bool, true, false, refl, sym, ap, subst, ◌∙◌, append-nil, append_assoc, MatchBool}
 use Rattle.std.specs.Prelude.{reverse}
 use Rattle.cl_rpc.specs.declared.call.Parsed.{Parsed}
 use Rattle.cl_rpc.specs.Replies.{reply_frame}
 use Rattle.cl_core.specs.declared.core_state.Core.{Core}
 use Rattle.cl_core.specs.declared.event.Entry.{Entry}
-use Rattle.cl_core.specs.declared.event.Event.{Event}
 use Rattle.cl_core.specs.declared.event.Effect.{Effect}
 use Rattle.cl_core.specs.declared.event.Effect.TheVariants as effect
 use Rattle.cl_core.specs.Legal.{IsLegal}
@@ -46,10 +45,10 @@ goes_step : (messages : List Parsed) (old new : Core) (put : Put) (bytes : List 
 goes_step messages old new put bytes goes takes =
     by_finished put.taken (Steps old put.event new put.effects) (IsAsBefore old new × (put.effects ≡ [])) (Goes messages new (bytes ++ frames_of put.effects)) takes.steps
     (λ steps. by_both old.finished (IsNext messages old put.event) ((new ≡ old) × (put.effects ≡ [])) (Goes messages new (bytes ++ frames_of put.effects)) (StepsOn old put.event new put.effects) takes.next steps
-      (λ q. goes_same messages old new put.effects bytes q.0 q.1 goes)
-      (λ here on. (step_stands messages old new put.event put.effects here goes.0 steps, step_writes messages old new put.event put.effects bytes here goes.0 steps goes.1)))
+    (λ q. goes_same messages old new put.effects bytes q.0 q.1 goes)
+    (λ here on. (step_stands messages old new put.event put.effects here goes.0 steps, step_writes messages old new put.event put.effects bytes here goes.0 steps goes.1)))
     (λ q. let kept : Goes messages new bytes = (as_before_stands messages old new goes.0 q.0, subst (λ (j : List Entry). Writes messages (reverse j) bytes) (sym q.0.journal) goes.1) in
-      goes_same messages new new put.effects bytes refl q.1 kept)
+    goes_same messages new new put.effects bytes refl q.1 kept)
 
 pub goes_run : (messages : List Parsed) (puts : List Put) (fresh core : Core)
     → Goes messages fresh [] → Runs messages fresh puts core → Goes messages core (frames_of (effects_of puts))

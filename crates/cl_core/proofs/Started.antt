@@ -1,7 +1,6 @@
 -- Each job of a run is over its document's text, and marked with the journal's length.
-use Rattle.std.proofs.Common.{◌≡◌, ⊎_elim, ℕ, ℤ, ◌+◌, List, [], ◌∷◌, ◌++◌, length, map, refl, sym, ap, ◌∙◌, subst, arith, append-nil, length-append}
+use Rattle.std.proofs.Common.{◌≡◌, ⊎_elim, ℕ, ℤ, ◌+◌, List, [], ◌∷◌, ◌++◌, length, map, sym, ap, ◌∙◌, subst, arith, append-nil, length-append}
 use Rattle.std.specs.Prelude.{Option, Some, None, reverse}
-use Rattle.std.specs.Bool.{MatchBool}
 use Rattle.std.specs.List.{AllByRecursion}
 use Rattle.cl_store.specs.declared.docs.Doc.{Doc}
 use Rattle.cl_store.specs.Docs.{doc_at}
@@ -22,9 +21,9 @@ use Rattle.cl_core.specs.declared.event.Ending.{Ending}
 use Rattle.cl_core.specs.declared.event.Effect.{Effect}
 use Rattle.cl_core.specs.declared.waiting.Waiting.{Waiting}
 use Rattle.cl_core.specs.Deciding.{core_refusal, entry_of, replies_of, replies_to_request, started_by, started_if, waiting_for}
-use Rattle.cl_core.specs.Steps.{Takes, Replies, Completes, Stops, Steps, StepsOn, IsAsBefore, finish, first_ending, status_of, ending_after, left_by, left_after, pending_after, is_nil, start_jobs}
+use Rattle.cl_core.specs.Steps.{Takes, Completes, Stops, Steps, StepsOn, IsAsBefore, finish, first_ending, status_of, ending_after, left_by, left_after, pending_after, is_nil, start_jobs}
 use Rattle.cl_core.specs.Standing.{Asks, StandsFor, jobs_of, journal_of, past_of}
-use Rattle.cl_core.specs.Runs.{Put, TakesPut, Runs, effects_of}
+use Rattle.cl_core.specs.Runs.{Put, TakesPut, Runs}
 use Rattle.cl_core.specs.Jobs.{IsStarted, AllStarted}
 use Rattle.cl_core.proofs.Turning.{job_of, jobs_after_replies, jobs_started, no_jobs_of_finish}
 use Rattle.cl_core.proofs.Running.{by_finished, starts, goes_run}
@@ -108,7 +107,7 @@ put_starts messages old new put stands takes =
     let started : Started =
     by_finished put.taken (Steps old put.event new put.effects) (IsAsBefore old new × (put.effects ≡ [])) Started takes.steps
     (λ steps. by_finished old.finished ((new ≡ old) × (put.effects ≡ [])) (StepsOn old put.event new put.effects) Started steps
-      (λ q. none_start messages new.journal (jobs_of put.effects) (ap jobs_of q.1)) (λ on. starts_on messages old new put.event put.effects stands on))
+    (λ q. none_start messages new.journal (jobs_of put.effects) (ap jobs_of q.1)) (λ on. starts_on messages old new put.event put.effects stands on))
     (λ q. none_start messages new.journal (jobs_of put.effects) (ap jobs_of q.1)) in
     subst (λ (j : List Entry). AllByRecursion (IsStarted messages j) (jobs_of put.effects)) (sym takes.told) started
 

@@ -41,9 +41,10 @@ over messages [] = None
 over messages (put ∷ past) = if is_nil (pending messages (reverse put.journal)) then first_status messages (put ∷ past) else None
 
 -- the effects of an event, by the status with which the session was over before it and is over after it: where it
--- was over, none; where it becomes over, the end with this status comes last, and once; else there is no end
+-- was over, it stays so, with no effect; where it becomes over, the end with this status comes last, and once; else
+-- there is no end
 abbrev pub EndsAs : Option ℕ → Option ℕ → List Effect → Type 0
-EndsAs (Some status) after effects = effects ≡ []
+EndsAs (Some status) after effects = (after ≡ Some status) × (effects ≡ [])
 EndsAs None (Some status) effects = (front : List Effect) × (finish_of front ≡ None) × (effects ≡ front ++ effect.Finish status ∷ [])
 EndsAs None None effects = finish_of effects ≡ None
 

@@ -1,14 +1,12 @@
-use Rattle.std.proofs.Common.{◌≡◌, refl, sym, ap, ◌∙◌, rules, List, ℕ, ◌∷◌, [], ◌++◌, if◌then◌else◌, inl, inr}
-use Rattle.std.specs.Prelude.{Some, None}
+use Rattle.std.proofs.Common.{◌≡◌, ap, ◌∙◌, rules, List, ℕ, ◌∷◌, [], ◌++◌, if◌then◌else◌}
+use Rattle.std.specs.Prelude.{Some}
 use Rattle.std.specs.Ordering.{nat_cmp}
 use Rattle.std.specs.Cmp.Lexicographic.{slice_cmp}
 use Rattle.std.specs.BTreeMap.{get}
 use Rattle.std.specs.Str.{bytes_eq}
-use Rattle.cl_core.specs.declared.index.Documents.{Documents}
-use Rattle.cl_core.specs.History.{without}
-use Rattle.cl_core.specs.Indexes.{message_by, messages_on}
+use Rattle.cl_core.specs.Indexes.{messages_on}
 use Rattle.cl_core.proofs.Kept.{on_err}
-use Rattle.cl_core.proofs.Putting.{same_groups, group_put, group_there, group_becomes, if_same, put_last, let_go}
+use Rattle.cl_core.proofs.Putting.{same_groups, group_put, group_there, group_becomes, if_same, put_last}
 use Rattle.cl_core.proofs.index.Documents.insert.Goals as goal
 
 pub returns-in_err-insert-clause-err : goal.returns-in_err-insert-clause-err

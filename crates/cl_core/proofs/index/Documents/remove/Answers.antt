@@ -1,15 +1,13 @@
-use Rattle.std.proofs.Common.{◌≡◌, refl, sym, ap, ◌∙◌, rules, List, ℕ, ◌∷◌, [], ◌++◌, if◌then◌else◌, inl, inr, arith}
+use Rattle.std.proofs.Common.{◌≡◌, sym, ap, ◌∙◌, rules, List, ℕ, [], if◌then◌else◌, arith}
 use Rattle.std.specs.Prelude.{Some, None}
 use Rattle.std.specs.Ordering.{nat_cmp}
 use Rattle.std.specs.Cmp.Lexicographic.{slice_cmp}
 use Rattle.std.specs.BTreeMap.{get}
 use Rattle.std.proofs.lemmas.List.{nil_from_length}
 use Rattle.std.specs.Str.{bytes_eq}
-use Rattle.cl_core.specs.declared.index.Documents.{Documents}
 use Rattle.cl_core.specs.History.{without}
-use Rattle.cl_core.specs.Indexes.{message_by, messages_on}
-use Rattle.cl_core.proofs.Kept.{on_err}
-use Rattle.cl_core.proofs.Putting.{if_again, group_put, group_there, group_becomes, if_same, put_last, let_go}
+use Rattle.cl_core.specs.Indexes.{messages_on}
+use Rattle.cl_core.proofs.Putting.{if_again, group_put, group_there, group_becomes, let_go}
 use Rattle.cl_core.proofs.index.Documents.remove.Goals as goal
 
 pub returns-then-count-eq1 : goal.returns-then-count-eq1

@@ -1,10 +1,7 @@
-use Rattle.std.proofs.Common.{◌≡◌, refl, sym, ap, ◌∙◌, rules, List, ℕ, ◌∷◌, [], ◌++◌, if◌then◌else◌, inl, inr}
-use Rattle.std.specs.Prelude.{Some, None}
-use Rattle.std.specs.Str.{bytes_eq}
-use Rattle.cl_core.specs.History.{without}
-use Rattle.cl_core.specs.Indexes.{message_by, messages_on}
+use Rattle.std.proofs.Common.{refl}
+use Rattle.std.specs.Prelude.{Some}
 use Rattle.cl_rpc.specs.declared.id.Id.TheVariants as id
-use Rattle.cl_core.proofs.Putting.{text_put, group_put, group_becomes, put_last, let_go}
+use Rattle.cl_core.proofs.Putting.{text_put}
 use Rattle.cl_core.proofs.index.Ids.insert.Goals as goal
 
 pub returns-in_ok-insert-in-Text-clause-ok : goal.returns-in_ok-insert-in-Text-clause-ok

@@ -1,5 +1,5 @@
-use Rattle.std.proofs.Common.{◌≡◌, refl, sym, ap, ◌∙◌, subst, rules, List, ℕ, ◌<◌, ◌∷◌, [], ◌++◌, filter, arith, false, if◌then◌else◌}
-use Rattle.std.specs.Prelude.{option_to_list, Some, None}
+use Rattle.std.proofs.Common.{◌≡◌, refl, sym, ap, ◌∙◌, subst, rules, List, ℕ, ◌<◌, ◌∷◌, [], ◌++◌, false, if◌then◌else◌}
+use Rattle.std.specs.Prelude.{None}
 use Rattle.std.specs.List.{AllByRecursion, list_any}
 use Rattle.std.specs.Str.{bytes_eq}
 use Rattle.std.specs.BTreeMap.{values}
@@ -9,7 +9,7 @@ use Rattle.cl_core.specs.Waiting.{has_id, same_id}
 use Rattle.cl_core.specs.History.{without}
 use Rattle.cl_core.specs.Indexes.{message_by, messages_on}
 use Rattle.cl_core.specs.declared.waiting.Waiting.{Waiting}
-use Rattle.cl_core.proofs.Indexed.{Entries, Below, numbers_below, pushed, values_more, removed, left_at, taken_back, document_back}
+use Rattle.cl_core.proofs.Indexed.{Below, numbers_below, pushed, values_more, taken_back, document_back}
 use Rattle.cl_core.proofs.pending.Pending.push.Goals as goal
 
 pub insert-requires-2 : goal.insert-requires-2
@@ -17,7 +17,7 @@ insert-requires-2 c =
     let below : Below c.args.waiting.job.message (values c.self.inside.waiting) = subst (Below c.args.waiting.job.message) (sym c.self.view_is) c.requires.above in
     record {
       above = subst (AllByRecursion (λ n. n < c.args.waiting.job.message)) (sym (c.self.invariant.by_document c.args.waiting.job.path))
-        (numbers_below (λ v. bytes_eq v.job.path c.args.waiting.job.path) c.args.waiting.job.message (values c.self.inside.waiting) below);
+          (numbers_below (λ v. bytes_eq v.job.path c.args.waiting.job.path) c.args.waiting.job.message (values c.self.inside.waiting) below);
     }
 
 pub invariant_of-self-then-is_err : goal.invariant_of-self-then-is_err

@@ -1,15 +1,6 @@
-use Rattle.std.proofs.Common.{◌≡◌, refl, sym, ap, ◌∙◌, subst, rules, List, ℕ, ◌<◌, ◌∷◌, [], ◌++◌, filter, arith, false, if◌then◌else◌}
-use Rattle.std.specs.Prelude.{option_to_list, Some, None}
-use Rattle.std.specs.List.{AllByRecursion, list_any}
-use Rattle.std.specs.Str.{bytes_eq}
-use Rattle.std.specs.BTreeMap.{values}
+use Rattle.std.proofs.Common.{sym, ap, ◌∙◌}
 use Rattle.std.specs.Map.{values_of}
-use Rattle.cl_rpc.specs.declared.id.Id.{Id}
-use Rattle.cl_core.specs.Waiting.{has_id, same_id}
-use Rattle.cl_core.specs.History.{without}
-use Rattle.cl_core.specs.Indexes.{message_by, messages_on}
-use Rattle.cl_core.specs.declared.waiting.Waiting.{Waiting}
-use Rattle.cl_core.proofs.Indexed.{Entries, Below, numbers_below, pushed, values_more, removed, left_at, taken_back, document_back}
+use Rattle.cl_core.proofs.Indexed.{removed, left_at}
 use Rattle.cl_core.proofs.pending.Pending.remove.Goals as goal
 
 pub invariant_of-self : goal.invariant_of-self

@@ -1,11 +1,9 @@
-use Rattle.std.proofs.Common.{◌≡◌, refl, sym, ap, ◌∙◌, subst, rules, List, ℕ, ◌<◌, ◌∷◌, [], ◌++◌, map, filter, take, drop, length, not, arith, false, true, nat_eq, if◌then◌else◌}
-use Rattle.std.specs.Prelude.{option_to_list, option_map, Some, None, is_some, slice_get, IfSome, Contains}
-use Rattle.std.specs.List.{AllByRecursion, list_any}
+use Rattle.std.proofs.Common.{ap, ◌∙◌}
+use Rattle.std.specs.Prelude.{is_some}
 use Rattle.std.specs.BTreeMap.{values}
-use Rattle.cl_core.specs.declared.waiting.Waiting.{Waiting}
-use Rattle.cl_core.specs.Waiting.{has_id, same_id, is_meant}
-use Rattle.cl_core.specs.Indexes.{message_by, messages_on, number_of, found_in}
-use Rattle.cl_core.proofs.Indexed.{Entries, at_number, some_meant, numbers_at, head_of, all_meant, alone, found_all, the_one, none_of, contains_one, passed_over, fewer, none_meant}
+use Rattle.cl_core.specs.Waiting.{has_id}
+use Rattle.cl_core.specs.Indexes.{message_by}
+use Rattle.cl_core.proofs.Indexed.{some_meant}
 use Rattle.cl_core.proofs.pending.Pending.waits.Goals as goal
 
 pub returns : goal.returns
