@@ -1,7 +1,7 @@
 //! The requests that wait for their replies. What a message does to them takes time logarithmic in how many there are,
 //! for each of those that it ends.
 
-ghost use Rattle.std.specs.Prelude.{◌≡◌, ◌<◌, ◌+◌, ◌∷◌, [], ◌++◌, List, IsTrue, filter, map, not, nat_eq, true, false, length, slice_get, option_to_list, OnOk, OnErr, IfOk, IfSome, IsNone, Contains};
+ghost use Rattle.std.specs.Prelude.{◌≡◌, ◌<◌, ◌+◌, ◌∷◌, [], ◌++◌, List, filter, map, not, nat_eq, true, false, length, slice_get, option_to_list, OnOk, OnErr, IfOk, IfSome, IsNone, Contains};
 ghost use Rattle.std.specs.List.{AllByRecursion, list_any};
 ghost use Rattle.std.specs.Option.{option_copied};
 ghost use Rattle.cl_core.specs.declared.waiting.Waiting.{Waiting};
@@ -90,7 +90,7 @@ impl Pending {
         self.waiting.len() == self.count(which)
     }
 
-    /// The number of the first that is meant. Of no other is that the number.
+    /// The number of the first that is meant. None that isn't meant has that number.
     fn first(&self, which: &Which<'_>) -> Option<u64>
         ensures first { result ≡ slice_get (map number_of (filter (is_meant which.now) self.now)) 0 }
         ensures alone { IfSome result (λ message. AllByRecursion (λ (waiting : Waiting). nat_eq waiting.job.message message ≡ true → is_meant which.now waiting ≡ true) self.now) }
