@@ -68,24 +68,24 @@ all_if : (P : Waiting → Type 0) (b : Bool) (ws all : List Waiting) → AllByRe
 all_if P true ws all h k = h
 all_if P false ws all h k = k
 
-all_left_waiting : (P : Waiting → Type 0) (core : Core) (c : Call) → AllByRecursion P core.pending.items → AllByRecursion P (left_waiting core c)
+all_left_waiting : (P : Waiting → Type 0) (core : Core) (c : Call) → AllByRecursion P core.pending → AllByRecursion P (left_waiting core c)
 all_left_waiting P core call.Initialize all = all
 all_left_waiting P core call.Shutdown all = all
 all_left_waiting P core call.Exit all = all
-all_left_waiting P core (call.DidOpen path version text) all = all_passed P (λ w. not (bytes_eq w.job.path path)) core.pending.items all
+all_left_waiting P core (call.DidOpen path version text) all = all_passed P (λ w. not (bytes_eq w.job.path path)) core.pending all
 all_left_waiting P core (call.DidChange path version None) all = all
 all_left_waiting P core (call.DidChange path version (Some text)) all =
-    all_if P (is_some (doc_at core.docs path)) (filter (λ w. not (bytes_eq w.job.path path)) core.pending.items) core.pending.items
-    (all_passed P (λ w. not (bytes_eq w.job.path path)) core.pending.items all) all
+    all_if P (is_some (doc_at core.docs path)) (filter (λ w. not (bytes_eq w.job.path path)) core.pending) core.pending
+    (all_passed P (λ w. not (bytes_eq w.job.path path)) core.pending all) all
 all_left_waiting P core (call.DidClose path) all = all
-all_left_waiting P core (call.Cancel i) all = all_passed P (λ w. not (same_id i w.id)) core.pending.items all
+all_left_waiting P core (call.Cancel i) all = all_passed P (λ w. not (same_id i w.id)) core.pending all
 all_left_waiting P core (call.Symbols path) all = all
 all_left_waiting P core call.Unknown all = all
 all_left_waiting P core (call.BadParams b) all = all
 
-all_left : (P : Waiting → Type 0) (core : Core) (p : Parsed) → AllByRecursion P core.pending.items → AllByRecursion P (left_by core p)
+pub all_left : (P : Waiting → Type 0) (core : Core) (p : Parsed) → AllByRecursion P core.pending → AllByRecursion P (left_by core p)
 all_left P core (parsed.Request i c) all = all
-all_left P core (parsed.Notification c) all = all_if P core.initialised (left_waiting core c) core.pending.items (all_left_waiting P core c all) all
+all_left P core (parsed.Notification c) all = all_if P core.initialised (left_waiting core c) core.pending (all_left_waiting P core c all) all
 all_left P core parsed.Ignored all = all
 all_left P core (parsed.Refused i code) all = all
 
@@ -133,7 +133,7 @@ all_started_if messages core rs i None (call.DidClose path) is stands e = tt
 all_started_if messages core rs i None (call.Cancel j) is stands e = tt
 all_started_if messages core rs i None (call.Symbols path) is stands e =
     newly_asks messages core rs i path (doc_at core.docs path) is stands
-    (initialised_if_accepted core.initialised core.shut_down (list_any (has_id i) core.pending.items) (is_open (texts_of core.docs) (Some path)) path e) refl
+    (initialised_if_accepted core.initialised core.shut_down (list_any (has_id i) core.pending) (is_open (texts_of core.docs) (Some path)) path e) refl
 all_started_if messages core rs i None call.Unknown is stands e = tt
 all_started_if messages core rs i None (call.BadParams b) is stands e = tt
 
@@ -149,7 +149,7 @@ pub all_ask : (messages : List Parsed) (core : Core) (rs : List Reply) (p : Pars
     → AllByRecursion (Asks messages (onto (map entry_of rs) (entry.In core.messages ∷ past_of core))) (pending_after core p)
 all_ask messages core rs p is stands =
     let P = Asks messages (onto (map entry_of rs) (entry.In core.messages ∷ past_of core)) in
-    let kept = all_left P core p (all_still_ask messages (past_of core) core.messages rs stands.count core.pending.items stands.asks) in
+    let kept = all_left P core p (all_still_ask messages (past_of core) core.messages rs stands.count core.pending stands.asks) in
     recursion_from_All P (left_by core p ++ started_by core p)
     (All-append P (left_by core p) (started_by core p) (All-from_recursion P (left_by core p) kept)
     (All-from_recursion P (started_by core p) (all_started messages core rs p is stands)))

@@ -65,10 +65,10 @@ same_open : (f g : List ℕ → Option (List ℕ)) → ((path : List ℕ) → f 
 same_open f g same None = refl
 same_open f g same (Some path) = ap is_some (same path)
 
-pub waits_if_pending : (messages : List Parsed) (core : Core) (i : Id) → StandsFor messages core → is_pending messages (past_of core) i ≡ list_any (has_id i) core.pending.items
+pub waits_if_pending : (messages : List Parsed) (core : Core) (i : Id) → StandsFor messages core → is_pending messages (past_of core) i ≡ list_any (has_id i) core.pending
 waits_if_pending messages core i stands =
     ap (list_any (λ n. asks_by i (said messages n))) (sym stands.waiting)
-    ∙ sym (same_any messages (past_of core) (has_id i) (asks_by i) (λ w. refl) core.pending.items stands.asks)
+    ∙ sym (same_any messages (past_of core) (has_id i) (asks_by i) (λ w. refl) core.pending stands.asks)
 
 pub same_refusal : (messages : List Parsed) (core : Core) (i : Id) (c : Call) → StandsFor messages core
     → refusal messages (past_of core) (parsed.Request i c) ≡ core_refusal core i c
@@ -77,7 +77,7 @@ same_refusal messages core i c stands =
     ap (λ (b : Bool). refusal_of b (is_shut_down messages past) (is_pending messages past i) (is_open (text_at messages past) (document_of c)) c) (sym stands.initialised)
     ∙ ap (λ (b : Bool). refusal_of core.initialised b (is_pending messages past i) (is_open (text_at messages past) (document_of c)) c) (sym stands.shut_down)
     ∙ ap (λ (b : Bool). refusal_of core.initialised core.shut_down b (is_open (text_at messages past) (document_of c)) c) (waits_if_pending messages core i stands)
-    ∙ ap (λ (b : Bool). refusal_of core.initialised core.shut_down (list_any (has_id i) core.pending.items) b c)
+    ∙ ap (λ (b : Bool). refusal_of core.initialised core.shut_down (list_any (has_id i) core.pending) b c)
     (same_open (text_at messages past) (texts_of core.docs) (λ path. sym (stands.texts path)) (document_of c))
 
 -- ---- the past after a message
@@ -111,11 +111,11 @@ dues_to_request n mark i None (call.BadParams b) = refl
 -- those of the requests that wait, by a test on what their messages say
 ended_dues : (messages : List Parsed) (core : Core) (f : Waiting → Bool) (g : Parsed → Bool) (mark : ℕ) (h : How)
     → ((w : Waiting) → f w ≡ g (parsed.Request w.id (call.Symbols w.job.path))) → StandsFor messages core
-    → all_as h (filter (λ n. g (said messages n)) (pending messages (past_of core))) ≡ map due_of (ended mark h (filter f core.pending.items))
+    → all_as h (filter (λ n. g (said messages n)) (pending messages (past_of core))) ≡ map due_of (ended mark h (filter f core.pending))
 ended_dues messages core f g mark h same stands =
     ap (λ (ns : List ℕ). all_as h (filter (λ n. g (said messages n)) ns)) (sym stands.waiting)
-    ∙ ap (all_as h) (sym (same_filter messages (past_of core) f g same core.pending.items stands.asks))
-    ∙ sym (dues_ended mark h (filter f core.pending.items))
+    ∙ ap (all_as h) (sym (same_filter messages (past_of core) f g same core.pending stands.asks))
+    ∙ sym (dues_ended mark h (filter f core.pending))
 
 dues_if : (a b : Bool) (dues : List Due) (mark : ℕ) (h : How) (ws : List Waiting) → a ≡ b → dues ≡ map due_of (ended mark h ws)
     → (if a then dues else []) ≡ map due_of (ended mark h (if b then ws else []))
@@ -139,7 +139,7 @@ dues_to_notice messages core (call.DidOpen path version text) mark stands =
 dues_to_notice messages core (call.DidChange path version None) mark stands = refl
 dues_to_notice messages core (call.DidChange path version (Some text)) mark stands =
     dues_if (is_some (text_at messages (past_of core) path)) (is_some (doc_at core.docs path)) (all_as how.Modified (pending_on messages (past_of core) path)) mark how.Modified
-    (filter (λ w. bytes_eq w.job.path path) core.pending.items)
+    (filter (λ w. bytes_eq w.job.path path) core.pending)
     (stands_open messages core path stands)
     (ended_dues messages core (λ w. bytes_eq w.job.path path) (asks_on path) mark how.Modified (λ w. refl) stands)
 dues_to_notice messages core (call.DidClose path) mark stands = refl

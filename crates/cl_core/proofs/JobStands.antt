@@ -43,15 +43,15 @@ asks_on_after messages past m mark h w a =
 
 -- the request of the job waits, so it may be answered
 may_answer : (messages : List Parsed) (core : Core) (w : Waiting) (mark : ℕ) (h : How)
-    → StandsFor messages core → Contains core.pending.items w → IsGiven core w.job mark h → MayAnswer messages (past_of core) w.job.message mark h
+    → StandsFor messages core → Contains core.pending w → IsGiven core w.job mark h → MayAnswer messages (past_of core) w.job.message mark h
 may_answer messages core w mark how.Answered s waits given =
-    let a = one_of (Asks messages (past_of core)) core.pending.items w s.asks waits in (
-      subst (λ (ns : List ℕ). Contains ns w.job.message) s.waiting (contains_as (λ (v : Waiting). v.job.message) core.pending.items w waits),
+    let a = one_of (Asks messages (past_of core)) core.pending w s.asks waits in (
+      subst (λ (ns : List ℕ). Contains ns w.job.message) s.waiting (contains_as (λ (v : Waiting). v.job.message) core.pending w waits),
       subst (λ (k : ℕ). place (past_of core) w.job.message < k) (sym given) a.later,
       subst (λ (k : ℕ). k ≤ length (past_of core)) (sym given) a.by_now,
     )
 may_answer messages core w mark how.Memory s waits given = (
-  subst (λ (ns : List ℕ). Contains ns w.job.message) s.waiting (contains_as (λ (v : Waiting). v.job.message) core.pending.items w waits),
+  subst (λ (ns : List ℕ). Contains ns w.job.message) s.waiting (contains_as (λ (v : Waiting). v.job.message) core.pending w waits),
   given ∙ sym (length-reverse core.journal),
 )
 may_answer messages core w mark how.Refused s waits given = absurd given
@@ -68,7 +68,7 @@ reply_stands messages old new job mark h o effects s given r =
     let follows : MayReply messages (past_of old) (owed messages (past_of old)) job.message mark h =
     subst (λ (due : List Due). MayReply messages (past_of old) due job.message mark h) (sym s.none_due) may in
     let left : AllByRecursion (Asks messages (entry.Reply job.message mark h ∷ past_of old)) (left_after old job.message) =
-    all_left (Asks messages (past_of old)) (Asks messages (entry.Reply job.message mark h ∷ past_of old)) (λ (w : Waiting). not (nat_eq w.job.message job.message)) old.pending.items
+    all_left (Asks messages (past_of old)) (Asks messages (entry.Reply job.message mark h ∷ past_of old)) (λ (w : Waiting). not (nat_eq w.job.message job.message)) old.pending
     (asks_on_after messages (past_of old) job.message mark h) s.asks in
     record {
       initialised = r.initialised ∙ s.initialised ∙ sym (ap (is_initialised messages) past);
@@ -76,8 +76,8 @@ reply_stands messages old new job mark h o effects s given r =
       once_initialised = λ e. r.initialised ∙ s.once_initialised (sym r.shut_down ∙ e);
       texts = λ path. r.texts path ∙ s.texts path ∙ sym (ap (λ (p : List Entry). text_at messages p path) past);
       count = r.messages ∙ s.count ∙ sym (ap received past);
-      waiting = ap (map (λ (w : Waiting). w.job.message)) r.pending ∙ messages_left job.message old.pending.items ∙ ap (without job.message) s.waiting ∙ sym (ap (pending messages) past);
-      asks = subst (λ (p : List Entry). AllByRecursion (Asks messages p) new.pending.items) (sym past)
+      waiting = ap (map (λ (w : Waiting). w.job.message)) r.pending ∙ messages_left job.message old.pending ∙ ap (without job.message) s.waiting ∙ sym (ap (pending messages) past);
+      asks = subst (λ (p : List Entry). AllByRecursion (Asks messages p) new.pending) (sym past)
           (subst (AllByRecursion (Asks messages (entry.Reply job.message mark h ∷ past_of old))) (sym r.pending) left);
       follow = subst (AllFollow messages) (sym past) (follows, s.follow);
       none_due = ap (owed messages) past ∙ ap rest_of s.none_due;
@@ -116,7 +116,7 @@ as_before_stands messages old new s b =
       texts = λ path. b.texts path ∙ s.texts path ∙ sym (ap (λ (p : List Entry). text_at messages p path) past);
       count = b.messages ∙ s.count ∙ sym (ap received past);
       waiting = ap (map (λ (w : Waiting). w.job.message)) b.pending ∙ s.waiting ∙ sym (ap (pending messages) past);
-      asks = subst (λ (p : List Entry). AllByRecursion (Asks messages p) new.pending.items) (sym past)
+      asks = subst (λ (p : List Entry). AllByRecursion (Asks messages p) new.pending) (sym past)
           (subst (AllByRecursion (Asks messages (past_of old))) (sym b.pending) s.asks);
       follow = subst (AllFollow messages) (sym past) s.follow;
       none_due = ap (owed messages) past ∙ s.none_due;

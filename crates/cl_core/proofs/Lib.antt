@@ -12,9 +12,15 @@ pub mod Turning
 pub mod Settling
 pub mod Kept
 pub mod Accepting
-pub mod Pending
+pub mod StillPending
 pub mod Asking
 pub mod MessageStands
 pub mod Times
 pub mod Once
 pub mod Running
+pub mod Putting
+pub mod Indexed
+pub mod Numbering
+pub mod Started
+pub mod Finishing
+pub mod JobsOut

@@ -23,7 +23,7 @@ use Rattle.cl_core.proofs.Onto.{onto, unchanged}
 use Rattle.cl_core.proofs.Accepting.{initialised_after, shut_down_after}
 use Rattle.cl_core.proofs.Dues.{said_is, number_of, due_of, new_past, owed_first, waits_if_pending}
 use Rattle.cl_core.proofs.Following.{marks_of, replies_follow, none_left_due}
-use Rattle.cl_core.proofs.Pending.{still_pending}
+use Rattle.cl_core.proofs.StillPending.{still_pending}
 use Rattle.cl_core.proofs.Asking.{all_ask}
 
 -- ---- a session that is shut down was initialised
@@ -52,8 +52,8 @@ on_if_any messages past f (w ∷ ws) all e = all.0.initialised
 
 initialise : (messages : List Parsed) (core : Core) (i : Id) → StandsFor messages core → (not (is_some (core_refusal core i call.Initialize)) || core.initialised) ≡ true
 initialise messages core i stands =
-    initialised_after core.initialised core.shut_down (list_any (has_id i) core.pending.items) stands.once_initialised
-    (λ e. stands.initialised ∙ on_if_any messages (past_of core) (has_id i) core.pending.items stands.asks e)
+    initialised_after core.initialised core.shut_down (list_any (has_id i) core.pending) stands.once_initialised
+    (λ e. stands.initialised ∙ on_if_any messages (past_of core) (has_id i) core.pending stands.asks e)
 
 same_initialised : (messages : List Parsed) (core : Core) (p : Parsed) → StandsFor messages core
     → ((initialises p && is_accepted core p) || core.initialised) ≡ (initialises p || is_initialised messages (past_of core))
@@ -77,8 +77,8 @@ shut_down : (messages : List Parsed) (core : Core) (i : Id) → StandsFor messag
     → (not (is_some (core_refusal core i call.Shutdown)) || core.shut_down)
     ≡ ((is_initialised messages (past_of core) && not (is_pending messages (past_of core) i)) || is_shut_down messages (past_of core))
 shut_down messages core i stands =
-    shut_down_after core.initialised core.shut_down (list_any (has_id i) core.pending.items)
-    ∙ ap (λ (b : Bool). (b && not (list_any (has_id i) core.pending.items)) || core.shut_down) stands.initialised
+    shut_down_after core.initialised core.shut_down (list_any (has_id i) core.pending)
+    ∙ ap (λ (b : Bool). (b && not (list_any (has_id i) core.pending)) || core.shut_down) stands.initialised
     ∙ ap (λ (b : Bool). (is_initialised messages (past_of core) && not b) || core.shut_down) (sym (waits_if_pending messages core i stands))
     ∙ ap (λ (b : Bool). (is_initialised messages (past_of core) && not (is_pending messages (past_of core) i)) || b) stands.shut_down
 

@@ -28,7 +28,7 @@ settled_onto messages past (r ∷ rs) s = settled_onto messages (entry_of r ∷ 
 pub message_settles : (messages : List Parsed) (old new : Core) (p : Parsed) (effects : List Effect)
     → StandsFor messages old → jobs_out old ≡ [] → Takes old p new effects → IsSettled messages (past_of old) → IsSettled messages (past_of new)
 message_settles messages old new p effects stands none_out takes s =
-    let none : pending messages (past_of old) ≡ [] = sym stands.waiting ∙ ap (map (λ (w : Waiting). w.job.message)) (none_mapped old.pending.items none_out) in
+    let none : pending messages (past_of old) ≡ [] = sym stands.waiting ∙ ap (map (λ (w : Waiting). w.job.message)) (none_mapped old.pending none_out) in
     subst (IsSettled messages) (sym (new_past old new p effects takes)) (settled_onto messages (entry.In old.messages ∷ past_of old) (replies_of old p) (none, s))
 
 pub job_settles : (messages : List Parsed) (old new : Core) (job : Job) (mark : ℕ) (h : How) (o : Out) (effects : List Effect)

@@ -26,7 +26,7 @@ pub takes_ended : (old new : Core) (c : Call) (effects all : List Effect) (none_
     → new.shut_down ≡ old.shut_down
     → new.ending ≡ old.ending
     → new.finished ≡ (is_some old.ending && none_left)
-    → new.pending.items ≡ left_waiting old c
+    → new.pending ≡ left_waiting old c
     → ((path : List ℕ) → texts_of new.docs path ≡ text_after old.initialised (Notification c) path (texts_of old.docs path))
     → Takes old (Notification c) new all
 takes_ended old new c effects all none_left on stays is whole left m j i s e f p t =
@@ -59,7 +59,7 @@ pub takes_noted : (old mid : Core) (c : Call) (effects all : List Effect) (none_
     → finished ≡ (is_some old.ending && none_left)
     → (new : Core)
     → new ≡ record mid { docs = new.docs; pending = new.pending; finished = finished }
-    → new.pending.items ≡ left_waiting old c
+    → new.pending ≡ left_waiting old c
     → ((path : List ℕ) → texts_of new.docs path ≡ text_after old.initialised (Notification c) path (texts_of old.docs path))
     → Takes old (Notification c) new all
 takes_noted old mid c effects all none_left finished noted on stays is whole left ends new same p t =

@@ -34,20 +34,20 @@ job_of w = w.job
 
 -- ---- the jobs and the end among the effects
 
-jobs_after_replies : (rs : List Reply) (es : List Effect) → jobs_of (map effect.Reply rs ++ es) ≡ jobs_of es
+pub jobs_after_replies : (rs : List Reply) (es : List Effect) → jobs_of (map effect.Reply rs ++ es) ≡ jobs_of es
 jobs_after_replies [] es = refl
 jobs_after_replies (r ∷ rs) es = jobs_after_replies rs es
 
-jobs_started : (ws : List Waiting) (es : List Effect) → jobs_of (start_jobs ws ++ es) ≡ map job_of ws ++ jobs_of es
+pub jobs_started : (ws : List Waiting) (es : List Effect) → jobs_of (start_jobs ws ++ es) ≡ map job_of ws ++ jobs_of es
 jobs_started [] es = refl
 jobs_started (w ∷ ws) es = ap (λ (jobs : List Job). w.job ∷ jobs) (jobs_started ws es)
 
-no_jobs_of_finish : (o : Option ℕ) (none_left : Bool) → jobs_of (finish_if o none_left) ≡ []
+pub no_jobs_of_finish : (o : Option ℕ) (none_left : Bool) → jobs_of (finish_if o none_left) ≡ []
 no_jobs_of_finish None none_left = refl
 no_jobs_of_finish (Some status) true = refl
 no_jobs_of_finish (Some status) false = refl
 
-finish_after_replies : (rs : List Reply) (es : List Effect) → finish_of (map effect.Reply rs ++ es) ≡ finish_of es
+pub finish_after_replies : (rs : List Reply) (es : List Effect) → finish_of (map effect.Reply rs ++ es) ≡ finish_of es
 finish_after_replies [] es = refl
 finish_after_replies (r ∷ rs) es = finish_after_replies rs es
 
@@ -76,7 +76,7 @@ if_both : (b : Bool) (us ws : List Waiting) → us ≡ [] → ws ≡ [] → (if 
 if_both true us ws d e = d
 if_both false us ws d e = e
 
-left_of_none : (core : Core) (c : Call) → core.pending.items ≡ [] → left_waiting core c ≡ []
+left_of_none : (core : Core) (c : Call) → core.pending ≡ [] → left_waiting core c ≡ []
 left_of_none core (call.Cancel i) e = rw e refl
 left_of_none core (call.DidOpen path version text) e = rw e refl
 left_of_none core (call.DidChange path version (Some text)) e = if_both (is_some (doc_at core.docs path)) _ _ (rw e refl) e
@@ -89,8 +89,8 @@ left_of_none core (call.Symbols path) e = e
 left_of_none core call.Unknown e = e
 left_of_none core (call.BadParams b) e = e
 
-none_left_by : (core : Core) (p : Parsed) → core.pending.items ≡ [] → left_by core p ≡ []
-none_left_by core (parsed.Notification c) e = if_both core.initialised (left_waiting core c) core.pending.items (left_of_none core c e) e
+none_left_by : (core : Core) (p : Parsed) → core.pending ≡ [] → left_by core p ≡ []
+none_left_by core (parsed.Notification c) e = if_both core.initialised (left_waiting core c) core.pending (left_of_none core c e) e
 none_left_by core (parsed.Request i c) e = e
 none_left_by core (parsed.Refused i code) e = e
 none_left_by core parsed.Ignored e = e
@@ -124,7 +124,7 @@ exit_starts_none core (parsed.Notification c) e = refl
 exit_starts_none core (parsed.Refused i code) e = refl
 exit_starts_none core parsed.Ignored e = refl
 
-exit_keeps : (p : Parsed) (accepted before : Bool) → is_exit p ≡ true → ((shuts_down p && accepted) || before) ≡ before
+pub exit_keeps : (p : Parsed) (accepted before : Bool) → is_exit p ≡ true → ((shuts_down p && accepted) || before) ≡ before
 exit_keeps (parsed.Request i c) accepted before e = absurd (cc)
 exit_keeps (parsed.Notification c) accepted before e = refl
 exit_keeps (parsed.Refused i code) accepted before e = refl
@@ -148,7 +148,7 @@ over_for false o status left e none = rw e refl
 
 pub takes_turn : (old new : Core) (p : Parsed) (effects : List Effect) → Takes old p new effects → IsIdle old → TakesTurn old p new effects
 takes_turn old new p effects takes idle =
-    let none : old.pending.items ≡ [] = none_mapped old.pending.items idle.none_out in
+    let none : old.pending ≡ [] = none_mapped old.pending idle.none_out in
     let started = started_by old p in
     let left = pending_after old p in
     let status : ℕ = if old.shut_down then 0 else 1 in
@@ -183,7 +183,7 @@ one_mapped [] job e = absurd (cc)
 one_mapped (w ∷ []) job e = (w, refl, cc)
 one_mapped (w ∷ v ∷ ws) job e = absurd (cc)
 
-none_after : (core : Core) (w : Waiting) (job : Job) → core.pending.items ≡ w ∷ [] → w.job ≡ job → left_after core job.message ≡ []
+none_after : (core : Core) (w : Waiting) (job : Job) → core.pending ≡ w ∷ [] → w.job ≡ job → left_after core job.message ≡ []
 none_after core w job one same = rw (one, same, eq-eqb job.message job.message refl) refl
 
 reply_turn : (old new : Core) (job : Job) (mark : ℕ) (h : How) (o : Out) (effects : List Effect)
@@ -202,18 +202,18 @@ reply_turn old new job mark h o effects r none goes_on = record {
 pub ends_turn : (old new : Core) (job : Job) (mark : ℕ) (h : How) (o : Out) (effects : List Effect)
     → Completes old job mark h o new effects → jobs_out old ≡ job ∷ [] → old.ending ≡ None → EndsTurn old new effects
 ends_turn old new job mark h o effects c out_now goes_on =
-    let one = one_mapped old.pending.items job out_now in
-    let here : Contains old.pending.items one.0 = subst (λ (ws : List Waiting). Contains ws one.0) (sym one.1) (0, omega arith, refl) in
+    let one = one_mapped old.pending job out_now in
+    let here : Contains old.pending one.0 = subst (λ (ws : List Waiting). Contains ws one.0) (sym one.1) (0, omega arith, refl) in
     ⊎_elim (λ r. reply_turn old new job mark h o effects r (none_after old one.0 job one.1 one.2) goes_on)
     (λ q. absurd (q.0 one.0 here one.2)) c
 
 pub stops_idle : (old new : Core) (e : Ending) (effects : List Effect) → Stops old e new effects → IsIdle old → EndsSession old e new effects
 stops_idle old new e effects stops idle =
-    let none : old.pending.items ≡ [] = none_mapped old.pending.items idle.none_out in
+    let none : old.pending ≡ [] = none_mapped old.pending idle.none_out in
     record {
       count = ap (λ (core : Core). core.messages) stops.same;
       none_out = ap jobs_out stops.same ∙ idle.none_out;
-      effects_are = stops.effects_are ∙ ap (λ (o : Option ℕ). finish (first_ending o (status_of e)) old.pending.items) idle.goes_on ∙ ap (finish (Some (status_of e))) none;
+      effects_are = stops.effects_are ∙ ap (λ (o : Option ℕ). finish (first_ending o (status_of e)) old.pending) idle.goes_on ∙ ap (finish (Some (status_of e))) none;
     }
 
 pub step_turns : (old new : Core) (e : Event) (effects : List Effect) → Steps old e new effects → Turns old e new effects

@@ -121,14 +121,14 @@ ended_tell messages past here mark h is (w ∷ ws) all = (
 )
 
 -- the requests that a notification ends are some of those that wait
-ended_ask : (messages : List Parsed) (past : List Entry) (core : Core) (c : Call) → AllByRecursion (Asks messages past) core.pending.items → AllByRecursion (Asks messages past) (ended_waiting core c)
-ended_ask messages past core (call.Cancel i) all = all_left (Asks messages past) (Asks messages past) (λ (w : Waiting). same_id i w.id) core.pending.items (λ w a. a) all
-ended_ask messages past core (call.DidOpen path version text) all = all_left (Asks messages past) (Asks messages past) (λ (w : Waiting). bytes_eq w.job.path path) core.pending.items (λ w a. a) all
+ended_ask : (messages : List Parsed) (past : List Entry) (core : Core) (c : Call) → AllByRecursion (Asks messages past) core.pending → AllByRecursion (Asks messages past) (ended_waiting core c)
+ended_ask messages past core (call.Cancel i) all = all_left (Asks messages past) (Asks messages past) (λ (w : Waiting). same_id i w.id) core.pending (λ w a. a) all
+ended_ask messages past core (call.DidOpen path version text) all = all_left (Asks messages past) (Asks messages past) (λ (w : Waiting). bytes_eq w.job.path path) core.pending (λ w a. a) all
 ended_ask messages past core (call.DidChange path version (Some text)) all =
-    if_ask (is_some (doc_at core.docs path)) (all_left (Asks messages past) (Asks messages past) (λ (w : Waiting). bytes_eq w.job.path path) core.pending.items (λ w a. a) all)
+    if_ask (is_some (doc_at core.docs path)) (all_left (Asks messages past) (Asks messages past) (λ (w : Waiting). bytes_eq w.job.path path) core.pending (λ w a. a) all)
   where
-    if_ask : (b : Bool) → AllByRecursion (Asks messages past) (filter (λ (w : Waiting). bytes_eq w.job.path path) core.pending.items)
-        → AllByRecursion (Asks messages past) (if b then filter (λ (w : Waiting). bytes_eq w.job.path path) core.pending.items else [])
+    if_ask : (b : Bool) → AllByRecursion (Asks messages past) (filter (λ (w : Waiting). bytes_eq w.job.path path) core.pending)
+        → AllByRecursion (Asks messages past) (if b then filter (λ (w : Waiting). bytes_eq w.job.path path) core.pending else [])
     if_ask true some = some
     if_ask false some = tt
 ended_ask messages past core (call.DidChange path version None) all = tt
@@ -226,7 +226,7 @@ pub reply_writes : (messages : List Parsed) (old new : Core) (job : Job) (mark :
     → Writes messages (past_of old) bytes → Writes messages (past_of new) (bytes ++ frames_of effects)
 reply_writes messages old new job mark h o effects bytes s is r w =
     let reply = reply_by job.message mark h (Some r.waiting.id) o in
-    let asks : Asks messages (past_of old) r.waiting = one_of (Asks messages (past_of old)) old.pending.items r.waiting s.asks r.waits in
+    let asks : Asks messages (past_of old) r.waiting = one_of (Asks messages (past_of old)) old.pending r.waiting s.asks r.waits in
     let tells : Tells messages (past_of old) job.message mark h reply =
     subst (λ (j : Job). Tells messages (past_of old) j.message mark h (reply_by j.message mark h (Some r.waiting.id) o)) r.same_job
     (tells_job messages (past_of old) r.waiting mark h o asks (subst (λ (j : Job). IsJobsOut j h o) (sym r.same_job) is)) in
@@ -252,6 +252,6 @@ job_writes messages old new job mark h o effects bytes s is c w =
 pub stop_writes : (messages : List Parsed) (old new : Core) (e : Ending) (effects : List Effect) (bytes : List ℕ)
     → Stops old e new effects → Writes messages (past_of old) bytes → Writes messages (past_of new) (bytes ++ frames_of effects)
 stop_writes messages old new e effects bytes stops w =
-    let quiet : frames_of effects ≡ [] = ap frames_of stops.effects_are ∙ no_frames_of_finish (first_ending old.ending (status_of e)) (is_nil old.pending.items) in
+    let quiet : frames_of effects ≡ [] = ap frames_of stops.effects_are ∙ no_frames_of_finish (first_ending old.ending (status_of e)) (is_nil old.pending) in
     let whole : bytes ++ frames_of effects ≡ bytes = ap (λ (more : List ℕ). bytes ++ more) quiet ∙ append-nil bytes in
     subst (λ (core : Core). Writes messages (past_of core) (bytes ++ frames_of effects)) (sym stops.same) (subst (Writes messages (past_of old)) (sym whole) w)

@@ -28,7 +28,7 @@ abbrev pub texts_of : Docs → List ℕ → Option (List ℕ)
 texts_of docs path = option_map (λ (doc : Doc). doc.text) (doc_at docs path)
 
 abbrev pub core_refusal : Core → Id → Call → Option ℤ
-core_refusal core i c = refusal_of core.initialised core.shut_down (list_any (has_id i) core.pending.items) (is_open (texts_of core.docs) (document_of c)) c
+core_refusal core i c = refusal_of core.initialised core.shut_down (list_any (has_id i) core.pending) (is_open (texts_of core.docs) (document_of c)) c
 
 abbrev pub reply_by : ℕ → ℕ → How → Option Id → Out → Reply
 reply_by message mark h i o = record { message = message; mark = mark; how = h; id = i; out = o }
@@ -55,18 +55,18 @@ replies_to_request n mark i None _ = []
 
 -- the requests that a notification ends, and those that go on waiting
 abbrev pub ended_waiting : Core → Call → List Waiting
-ended_waiting core (call.Cancel i) = filter (λ w. same_id i w.id) core.pending.items
-ended_waiting core (call.DidOpen path version text) = filter (λ w. bytes_eq w.job.path path) core.pending.items
+ended_waiting core (call.Cancel i) = filter (λ w. same_id i w.id) core.pending
+ended_waiting core (call.DidOpen path version text) = filter (λ w. bytes_eq w.job.path path) core.pending
 ended_waiting core (call.DidChange path version (Some text)) =
-    if is_some (doc_at core.docs path) then filter (λ w. bytes_eq w.job.path path) core.pending.items else []
+    if is_some (doc_at core.docs path) then filter (λ w. bytes_eq w.job.path path) core.pending else []
 ended_waiting core _ = []
 
 abbrev pub left_waiting : Core → Call → List Waiting
-left_waiting core (call.Cancel i) = filter (λ w. not (same_id i w.id)) core.pending.items
-left_waiting core (call.DidOpen path version text) = filter (λ w. not (bytes_eq w.job.path path)) core.pending.items
+left_waiting core (call.Cancel i) = filter (λ w. not (same_id i w.id)) core.pending
+left_waiting core (call.DidOpen path version text) = filter (λ w. not (bytes_eq w.job.path path)) core.pending
 left_waiting core (call.DidChange path version (Some text)) =
-    if is_some (doc_at core.docs path) then filter (λ w. not (bytes_eq w.job.path path)) core.pending.items else core.pending.items
-left_waiting core _ = core.pending.items
+    if is_some (doc_at core.docs path) then filter (λ w. not (bytes_eq w.job.path path)) core.pending else core.pending
+left_waiting core _ = core.pending
 
 abbrev pub how_ended : Call → How
 how_ended (call.Cancel i) = how.Cancelled

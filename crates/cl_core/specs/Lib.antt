@@ -8,3 +8,7 @@ pub mod Standing
 pub mod Steps
 pub mod Once
 pub mod Runs
+pub mod Indexes
+pub mod Numbered
+pub mod Jobs
+pub mod Ends

@@ -1,27 +1,39 @@
--- Whole runs of a core: events one after the other.
-use Rattle.std.specs.Prelude.{◌≡◌, ◌⊎◌, List, [], ◌∷◌, ◌++◌}
+-- Whole runs of a core: events one after the other. A run is told from its end: the newest event stands first.
+use Rattle.std.specs.Prelude.{◌≡◌, Bool, List, [], ◌∷◌, ◌++◌}
 use Rattle.std.specs.Bool.{MatchBool}
 use Rattle.cl_rpc.specs.declared.call.Parsed.{Parsed}
 use Rattle.cl_core.specs.declared.core_state.Core.{Core}
+use Rattle.cl_core.specs.declared.event.Entry.{Entry}
 use Rattle.cl_core.specs.declared.event.Event.{Event}
 use Rattle.cl_core.specs.declared.event.Effect.{Effect}
 use Rattle.cl_core.specs.Legal.{IsLegal}
 use Rattle.cl_core.specs.Once.{AreOnce}
 use Rattle.cl_core.specs.Written.{Writes}
-use Rattle.cl_core.specs.Standing.{IsNext, StandsFor, frames_of, past_of}
+use Rattle.cl_core.specs.Standing.{IsNext, StandsFor, frames_of, journal_of, past_of}
 use Rattle.cl_core.specs.Steps.{IsAsBefore, Steps}
 
--- an event is taken: while the session goes on, its message is the next of these; memory may be wanting for it, and
--- then nothing is done
-abbrev pub TakesEvent : List Parsed → Core → Event → Core → List Effect → Type 0
-TakesEvent messages old event new effects =
-    MatchBool old.finished (Unit {0}) (IsNext messages old event) × (Steps old event new effects ⊎ (IsAsBefore old new × (effects ≡ [])))
+-- an event that was put to a core: whether there was memory for it, its effects in order, and the journal after it
+pub record Put : Type 0 where
+  pub event : Event
+  pub taken : Bool
+  pub effects : List Effect
+  pub journal : List Entry
 
--- events are taken one after the other, and these are their effects
-abbrev pub Runs : List Parsed → Core → List Event → Core → List Effect → Type 0
-Runs messages old [] new effects = (new ≡ old) × (effects ≡ [])
-Runs messages old (event ∷ events) new effects =
-    (next : Core) × (first : List Effect) × (more : List Effect) × TakesEvent messages old event next first × Runs messages next events new more × (effects ≡ first ++ more)
+-- while the session goes on, the event's message is the next of these; where memory is wanting, nothing is done
+pub record TakesPut (messages : List Parsed) (old : Core) (put : Put) (new : Core) : Type 0 where
+  pub next : MatchBool old.finished (Unit {0}) (IsNext messages old put.event)
+  pub steps : MatchBool put.taken (Steps old put.event new put.effects) (IsAsBefore old new × (put.effects ≡ []))
+  pub told : put.journal ≡ journal_of new
+
+-- events are taken one after the other
+abbrev pub Runs : List Parsed → Core → List Put → Core → Type 0
+Runs messages fresh [] core = core ≡ fresh
+Runs messages fresh (put ∷ past) core = (before : Core) × Runs messages fresh past before × TakesPut messages before put core
+
+-- all their effects, in order
+abbrev pub effects_of : List Put → List Effect
+effects_of [] = []
+effects_of (put ∷ past) = effects_of past ++ put.effects
 
 -- the journal is legal, no message got two replies, the replies among the effects are those that the journal writes, and
 -- the core stands for its journal

@@ -29,7 +29,7 @@ past_of core = reverse core.journal
 
 -- the jobs that are out
 abbrev pub jobs_out : Core → List Job
-jobs_out core = map (λ (w : Waiting). w.job) core.pending.items
+jobs_out core = map (λ (w : Waiting). w.job) core.pending
 
 -- a request that waits stands in the history as a query, and its job is over its document's text at its receipt
 pub record Asks (messages : List Parsed) (past : List Entry) (w : Waiting) : Type 0 where
@@ -47,8 +47,8 @@ pub record StandsFor (messages : List Parsed) (core : Core) : Type 0 where
   pub once_initialised : core.shut_down ≡ true → core.initialised ≡ true
   pub texts : (path : List ℕ) → texts_of core.docs path ≡ text_at messages (past_of core) path
   pub count : core.messages ≡ received (past_of core)
-  pub waiting : map (λ (w : Waiting). w.job.message) core.pending.items ≡ pending messages (past_of core)
-  pub asks : AllByRecursion (Asks messages (past_of core)) core.pending.items
+  pub waiting : map (λ (w : Waiting). w.job.message) core.pending ≡ pending messages (past_of core)
+  pub asks : AllByRecursion (Asks messages (past_of core)) core.pending
   pub follow : AllFollow messages (past_of core)
   pub none_due : owed messages (past_of core) ≡ []
 

@@ -61,8 +61,8 @@ abbrev pub ending_after : Core → Parsed → Option ℕ
 ending_after core p = if is_exit p then first_ending core.ending (if core.shut_down then 0 else 1) else core.ending
 
 abbrev pub left_by : Core → Parsed → List Waiting
-left_by core (parsed.Notification c) = if core.initialised then left_waiting core c else core.pending.items
-left_by core _ = core.pending.items
+left_by core (parsed.Notification c) = if core.initialised then left_waiting core c else core.pending
+left_by core _ = core.pending
 
 abbrev pub pending_after : Core → Parsed → List Waiting
 pending_after core p = left_by core p ++ started_by core p
@@ -86,26 +86,26 @@ pub record Takes (old : Core) (p : Parsed) (new : Core) (effects : List Effect) 
   pub initialised : new.initialised ≡ ((initialises p && is_accepted old p) || old.initialised)
   pub shut_down : new.shut_down ≡ ((shuts_down p && is_accepted old p) || old.shut_down)
   pub texts : (path : List ℕ) → texts_of new.docs path ≡ text_after old.initialised p path (texts_of old.docs path)
-  pub pending : new.pending.items ≡ pending_after old p
+  pub pending : new.pending ≡ pending_after old p
   pub ending : new.ending ≡ ending_after old p
   pub finished : new.finished ≡ finishes (ending_after old p) (pending_after old p)
   pub effects_are : effects ≡ map effect.Reply (replies_of old p) ++ (start_jobs (started_by old p) ++ finish (ending_after old p) (pending_after old p))
 
 -- the requests that are left when one is replied to
 abbrev pub left_after : Core → ℕ → List Waiting
-left_after core message = filter (λ w. not (nat_eq w.job.message message)) core.pending.items
+left_after core message = filter (λ w. not (nat_eq w.job.message message)) core.pending
 
 -- a request was replied to, when its job ended
 pub record Replies (old : Core) (job : Job) (mark : ℕ) (h : How) (o : Out) (new : Core) (effects : List Effect) : Type 0 where
   pub waiting : Waiting
-  pub waits : Contains old.pending.items waiting
+  pub waits : Contains old.pending waiting
   pub same_job : waiting.job ≡ job
   pub messages : new.messages ≡ old.messages
   pub journal : new.journal ≡ old.journal ++ entry.Reply job.message mark h ∷ []
   pub initialised : new.initialised ≡ old.initialised
   pub shut_down : new.shut_down ≡ old.shut_down
   pub texts : (path : List ℕ) → texts_of new.docs path ≡ texts_of old.docs path
-  pub pending : new.pending.items ≡ left_after old job.message
+  pub pending : new.pending ≡ left_after old job.message
   pub ending : new.ending ≡ old.ending
   pub finished : new.finished ≡ finishes old.ending (left_after old job.message)
   pub effects_are : effects ≡ effect.Reply (reply_by job.message mark h (Some waiting.id) o) ∷ finish old.ending (left_after old job.message)
@@ -114,7 +114,7 @@ pub record Replies (old : Core) (job : Job) (mark : ℕ) (h : How) (o : Out) (ne
 abbrev pub Completes : Core → Job → ℕ → How → Out → Core → List Effect → Type 0
 Completes old job mark h o new effects =
     Replies old job mark h o new effects
-    ⊎ (((waiting : Waiting) → Contains old.pending.items waiting → waiting.job ≡ job → ⊥) × (new ≡ old) × (effects ≡ []))
+    ⊎ (((waiting : Waiting) → Contains old.pending waiting → waiting.job ≡ job → ⊥) × (new ≡ old) × (effects ≡ []))
 
 -- the status that an end of the input gives
 abbrev pub status_of : Ending → ℕ
@@ -126,8 +126,8 @@ status_of ending.Long = 8
 
 -- the input ended
 pub record Stops (old : Core) (how_it_ended : Ending) (new : Core) (effects : List Effect) : Type 0 where
-  pub same : new ≡ record old { ending = first_ending old.ending (status_of how_it_ended); finished = is_nil old.pending.items }
-  pub effects_are : effects ≡ finish (first_ending old.ending (status_of how_it_ended)) old.pending.items
+  pub same : new ≡ record old { ending = first_ending old.ending (status_of how_it_ended); finished = is_nil old.pending }
+  pub effects_are : effects ≡ finish (first_ending old.ending (status_of how_it_ended)) old.pending
 
 -- what a step of a session that goes on does
 abbrev pub StepsOn : Core → Event → Core → List Effect → Type 0
@@ -147,6 +147,6 @@ pub record IsAsBefore (old new : Core) : Type 0 where
   pub initialised : new.initialised ≡ old.initialised
   pub shut_down : new.shut_down ≡ old.shut_down
   pub texts : (path : List ℕ) → texts_of new.docs path ≡ texts_of old.docs path
-  pub pending : new.pending.items ≡ old.pending.items
+  pub pending : new.pending ≡ old.pending
   pub ending : new.ending ≡ old.ending
   pub finished : new.finished ≡ old.finished

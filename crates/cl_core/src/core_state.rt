@@ -1,22 +1,43 @@
 use crate::event::Entry;
-use crate::waiting::Waiting;
+use crate::pending::Pending;
 use cl_base::List;
 use cl_store::Docs;
 use std::alloc::Global;
+use std::marker::Model;
 
 /// The state of a session: what was accepted so far, the open documents, the requests that wait for their replies,
 /// and the journal.
 #[derive(Drop)]
-pub struct Core {
+pub struct State {
     pub(crate) initialised: bool,
     pub(crate) shut_down: bool,
     pub(crate) docs: Docs,
-    pub(crate) pending: Vec<Waiting>,
+    pub(crate) pending: Pending,
     pub(crate) messages: u64,
     pub(crate) jobs: u64,
     pub(crate) ending: Option<u8>,
     pub(crate) finished: bool,
     pub(crate) journal: List<Entry>,
+}
+
+/// A session: its state, in which the messages of those that wait were received.
+#[derive(Drop)]
+pub struct Core {
+    pub(crate) state: State,
+}
+
+impl Model for Core {
+    ghost use Rattle.cl_core.specs.declared.core_state.State.{State};
+    ghost use Rattle.cl_core.specs.contracts.core_state.State.{the_row as state_row};
+    ghost use Rattle.cl_core.specs.Numbered.{IsNumbered};
+
+    ghost Value = { State };
+
+    ghost coded = { state_row.coded };
+
+    ghost view = { λ it. it.state };
+
+    ghost invariant = { λ it. IsNumbered it.state };
 }
 
 impl Core {
@@ -31,15 +52,17 @@ impl Core {
         ensures idle { IsIdle result }
     {
         Core {
-            initialised: false,
-            shut_down: false,
-            docs: Docs::new(alloc),
-            pending: Vec::new(alloc),
-            messages: 0,
-            jobs: 0,
-            ending: None,
-            finished: false,
-            journal: List::new(alloc),
+            state: State {
+                initialised: false,
+                shut_down: false,
+                docs: Docs::new(alloc),
+                pending: Pending::new(alloc),
+                messages: 0,
+                jobs: 0,
+                ending: None,
+                finished: false,
+                journal: List::new(alloc),
+            },
         }
     }
 
@@ -47,13 +70,13 @@ impl Core {
     pub fn journal(&self) -> &List<Entry>
         ensures { result.now ≡ journal_of self.now }
     {
-        &self.journal
+        &self.state.journal
     }
 
     /// The entries, the oldest first; the session is over.
     pub fn into_journal(self) -> List<Entry>
         ensures { result ≡ journal_of self }
     {
-        self.journal
+        self.state.journal
     }
 }

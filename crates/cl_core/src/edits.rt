@@ -3,26 +3,26 @@ ghost use Rattle.cl_rpc.specs.declared.call.Parsed.TheVariants.{Notification};
 ghost use Rattle.cl_core.specs.Deciding.{replies_of};
 ghost use Rattle.cl_core.specs.Steps.{IsAsBefore, PutsText, Takes, entries_of};
 
-use crate::core_state::Core;
+use crate::core_state::State;
 use crate::event::{Effect, Entry};
 use crate::note::{finishes, note, settle, with_finish};
-use crate::waiting::{Which, all_meant, release_document, release_id};
+use crate::waiting::Which;
 use cl_base::{Duplicate, List, Mem, Memory, Path, Text};
 use cl_rpc::{Call, Id};
 use std::alloc::Global;
 
 /// Takes a cancel, which ends the request of its id, if one waits.
-pub fn cancel(alloc: Global, core: &mut Core, id: &Id, effects: List<Effect>) -> Mem<List<Effect>>
+pub fn cancel(alloc: Global, core: &mut State, id: &Id, effects: List<Effect>) -> Mem<List<Effect>>
     requires on { core.old.initialised ≡ true }
     requires replies { effects ≡ map Effect.Reply (replies_of core.old (Notification (Call.Cancel id.now))) }
     ensures ok { IfOk result (λ all. Takes core.old (Notification (Call.Cancel id.now)) core.new all) }
     ensures err { OnErr result (IsAsBefore core.old core.new) }
 {
-    let none_left = all_meant(core.pending.as_slice(), &Which::Id(id));
+    let none_left = core.pending.all_meant(&Which::Id(id));
     let finished = finishes(core.ending, none_left);
     let all = with_finish(effects, core.ending, none_left)?;
     note(alloc, core, all.as_slice())?;
-    release_id(&mut core.pending, id);
+    core.pending.release(&Which::Id(id));
     core.finished = finished;
     Ok(all)
 }
@@ -30,7 +30,7 @@ pub fn cancel(alloc: Global, core: &mut Core, id: &Id, effects: List<Effect>) ->
 /// Takes the opening of a document, which ends the requests on it.
 pub fn open(
     alloc: Global,
-    core: &mut Core,
+    core: &mut State,
     path: &Path,
     version: i64,
     text: &Text,
@@ -41,11 +41,11 @@ pub fn open(
     ensures ok { IfOk result (λ all. Takes core.old (Notification (Call.DidOpen path.now version text.now)) core.new all) }
     ensures err { OnErr result (IsAsBefore core.old core.new) }
 {
-    let none_left = all_meant(core.pending.as_slice(), &Which::Document(path));
+    let none_left = core.pending.all_meant(&Which::Document(path));
     let finished = finishes(core.ending, none_left);
     let all = with_finish(effects, core.ending, none_left)?;
     note_text(alloc, core, path, version, text, all.as_slice())?;
-    release_document(&mut core.pending, path);
+    core.pending.release(&Which::Document(path));
     core.finished = finished;
     Ok(all)
 }
@@ -53,7 +53,7 @@ pub fn open(
 /// Takes the change of a document, which ends the requests on it where it is open.
 pub fn change(
     alloc: Global,
-    core: &mut Core,
+    core: &mut State,
     path: &Path,
     version: i64,
     text: &Text,
@@ -67,11 +67,11 @@ pub fn change(
     if core.docs.text_at(path).is_none() {
         return settle(alloc, core, effects);
     }
-    let none_left = all_meant(core.pending.as_slice(), &Which::Document(path));
+    let none_left = core.pending.all_meant(&Which::Document(path));
     let finished = finishes(core.ending, none_left);
     let all = with_finish(effects, core.ending, none_left)?;
     note_text(alloc, core, path, version, text, all.as_slice())?;
-    release_document(&mut core.pending, path);
+    core.pending.release(&Which::Document(path));
     core.finished = finished;
     Ok(all)
 }
@@ -79,7 +79,7 @@ pub fn change(
 /// Notes a message and its replies, and the text that the document has from then on, or changes nothing.
 fn note_text(
     alloc: Global,
-    core: &mut Core,
+    core: &mut State,
     path: &Path,
     version: i64,
     text: &Text,

@@ -1,11 +1,11 @@
 ghost use Rattle.std.specs.Prelude.{◌≡◌, IfOk, OnErr};
 ghost use Rattle.cl_core.specs.Steps.{Completes, IsAsBefore};
 
-use crate::core_state::Core;
+use crate::core_state::State;
 use crate::event::{Effect, Entry};
 use crate::note::{finishes, with_finish};
 use crate::replies::one;
-use crate::waiting::{Which, all_meant, release_message, waiting_for};
+use crate::waiting::Which;
 use cl_base::{Duplicate, List, Mem};
 use cl_query::Job;
 use cl_rpc::{How, Out, Reply};
@@ -14,7 +14,7 @@ use std::alloc::Global;
 /// Takes the end of a job, which its request is replied with. A job that isn't out has no effect.
 pub fn complete(
     alloc: Global,
-    core: &mut Core,
+    core: &mut State,
     job: &Job,
     mark: u64,
     how: How,
@@ -23,7 +23,7 @@ pub fn complete(
     ensures ok { IfOk result (λ effects. Completes core.old job.now mark how out core.new effects) }
     ensures err { OnErr result (IsAsBefore core.old core.new) }
 {
-    let waiting = match waiting_for(core.pending.as_slice(), job) {
+    let waiting = match core.pending.waiting_for(job) {
         Some(waiting) => waiting,
         None => return Ok(List::new(alloc)),
     };
@@ -36,12 +36,12 @@ pub fn complete(
         id: Some(id),
         out,
     };
-    let none_left = all_meant(core.pending.as_slice(), &Which::Message(message));
+    let none_left = core.pending.all_meant(&Which::Message(message));
     let finished = finishes(core.ending, none_left);
     let effects = one(alloc, reply)?;
     let all = with_finish(effects, core.ending, none_left)?;
     core.journal.push(Entry::Reply { message, mark, how })?;
-    release_message(&mut core.pending, message);
+    core.pending.remove(message);
     core.finished = finished;
     Ok(all)
 }

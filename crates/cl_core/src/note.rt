@@ -1,14 +1,13 @@
 ghost use Rattle.std.specs.Prelude.{◌≡◌, ◌+◌, ◌∷◌, [], ◌++◌, OnOk, OnErr, IfOk, ◌&&◌, is_some};
-ghost use Rattle.cl_core.specs.Steps.{entries_of, finish, finish_if, finishes, is_nil};
+ghost use Rattle.cl_core.specs.Steps.{entries_of, finish, finish_if, finishes};
 
-use crate::core_state::Core;
+use crate::core_state::State;
 use crate::event::{Effect, Entry};
-use crate::waiting::Waiting;
 use cl_base::{List, Mem, Memory};
 use std::alloc::Global;
 
 /// Notes a message and its replies in the journal, or changes nothing.
-pub fn note(alloc: Global, core: &mut Core, effects: &[Effect]) -> Mem<()>
+pub fn note(alloc: Global, core: &mut State, effects: &[Effect]) -> Mem<()>
     ensures ok { OnOk result (core.new ≡ record core.old {
       messages = core.old.messages + 1;
       journal = core.old.journal ++ Entry.In core.old.messages ∷ entries_of effects.now;
@@ -57,30 +56,20 @@ pub fn with_finish(effects: List<Effect>, ending: Option<u8>, none_left: bool) -
 
 /// Notes a message after which the same requests wait, and these replies.
 #[tactic(auto, using(crate::proofs::Effects::entries_with_finish))]
-pub fn settle(alloc: Global, core: &mut Core, effects: List<Effect>) -> Mem<List<Effect>>
+pub fn settle(alloc: Global, core: &mut State, effects: List<Effect>) -> Mem<List<Effect>>
     ensures ok { OnOk result (core.new ≡ record core.old {
       messages = core.old.messages + 1;
       journal = core.old.journal ++ Entry.In core.old.messages ∷ entries_of effects;
-      finished = finishes core.old.ending core.old.pending.items;
+      finished = finishes core.old.ending core.old.pending;
     }) }
-    ensures effects { IfOk result (λ all. all ≡ effects ++ finish core.old.ending core.old.pending.items) }
+    ensures effects { IfOk result (λ all. all ≡ effects ++ finish core.old.ending core.old.pending) }
     ensures err { OnErr result (core.new ≡ core.old) }
 {
-    let none_left = is_empty(core.pending.as_slice());
+    let none_left = core.pending.is_empty();
     let all = with_finish(effects, core.ending, none_left)?;
     note(alloc, core, all.as_slice())?;
     core.finished = finishes(core.ending, none_left);
     Ok(all)
-}
-
-/// Whether none waits.
-pub fn is_empty(pending: &[Waiting]) -> bool
-    ensures { result ≡ is_nil pending.now }
-{
-    match pending {
-        [] => true,
-        _ => false,
-    }
 }
 
 /// Whether the session ends: its status is known, and no request is left.

@@ -2,8 +2,7 @@ ghost use Rattle.std.specs.Prelude.{◌≡◌};
 ghost use Rattle.cl_core.specs.Refusals.{is_initialize};
 ghost use Rattle.cl_core.specs.Deciding.{core_refusal};
 
-use crate::core_state::Core;
-use crate::waiting::waits;
+use crate::core_state::State;
 use cl_rpc::{Call, Id};
 
 /// Whether the method is `initialize`.
@@ -18,7 +17,7 @@ fn is_initialize(call: &Call) -> bool
 }
 
 /// The code with which a request is refused, if it is.
-pub fn refusal_of(core: &Core, id: &Id, call: &Call) -> Option<i32>
+pub fn refusal_of(core: &State, id: &Id, call: &Call) -> Option<i32>
     ensures { result ≡ core_refusal core.now id.now call.now }
 {
     if !core.initialised && !is_initialize(call) {
@@ -27,7 +26,7 @@ pub fn refusal_of(core: &Core, id: &Id, call: &Call) -> Option<i32>
     if (core.initialised && is_initialize(call)) || core.shut_down {
         return Some(-32600);
     }
-    if waits(core.pending.as_slice(), id) {
+    if core.pending.waits(id) {
         return Some(-32600);
     }
     match call {

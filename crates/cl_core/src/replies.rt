@@ -1,8 +1,7 @@
-ghost use Rattle.std.specs.Prelude.{◌≡◌, ◌+◌, ◌<◌, ◌^◌, [], ◌∷◌, IfOk, map, filter, length};
-ghost use Rattle.cl_core.specs.Waiting.{is_meant};
+ghost use Rattle.std.specs.Prelude.{◌≡◌, ◌+◌, ◌<◌, ◌^◌, [], ◌∷◌, IfOk, map, length};
 ghost use Rattle.cl_core.specs.Deciding.{code_of, core_refusal, ended, replies_of, replies_to_request};
 
-use crate::core_state::Core;
+use crate::core_state::State;
 use crate::event::Effect;
 use crate::refusal::refusal_of;
 use crate::waiting::{Waiting, Which};
@@ -11,7 +10,7 @@ use cl_rpc::{Call, How, Id, Out, Parsed, Reply};
 use std::alloc::Global;
 
 /// The replies that come directly after a message, in order.
-pub fn replies_of(alloc: Global, core: &Core, parsed: &Parsed) -> Mem<List<Effect>>
+pub fn replies_of(alloc: Global, core: &State, parsed: &Parsed) -> Mem<List<Effect>>
     ensures { IfOk result (λ effects. effects ≡ map Effect.Reply (replies_of core.now parsed.now)) }
 {
     match parsed {
@@ -37,7 +36,7 @@ pub fn replies_of(alloc: Global, core: &Core, parsed: &Parsed) -> Mem<List<Effec
 }
 
 /// The reply that comes directly after a request, if one does.
-fn to_request(alloc: Global, core: &Core, id: &Id, call: &Call) -> Mem<List<Effect>>
+fn to_request(alloc: Global, core: &State, id: &Id, call: &Call) -> Mem<List<Effect>>
     ensures { IfOk result (λ effects. effects
         ≡ map Effect.Reply (replies_to_request core.now.messages (length core.now.journal + 1) id.now (core_refusal core.now id.now call.now) call.now)) }
 {
@@ -62,7 +61,7 @@ fn to_request(alloc: Global, core: &Core, id: &Id, call: &Call) -> Mem<List<Effe
 }
 
 /// The replies to the requests that a notification ends.
-fn to_notification(alloc: Global, core: &Core, call: &Call) -> Mem<List<Effect>>
+fn to_notification(alloc: Global, core: &State, call: &Call) -> Mem<List<Effect>>
     ensures { IfOk result (λ effects. effects ≡ map Effect.Reply (replies_of core.now (Parsed.Notification call.now))) }
 {
     if !core.initialised {
@@ -78,28 +77,21 @@ fn to_notification(alloc: Global, core: &Core, call: &Call) -> Mem<List<Effect>>
         _ => return Ok(List::new(alloc)),
     };
     let mark = core.journal.len() as u64 + 1;
-    let effects = ended_by(alloc, core.pending.as_slice(), &which, mark, how)?;
+    let found = core.pending.meant(alloc, &which)?;
+    let effects = ended_by(alloc, found.as_slice(), mark, how)?;
     Ok(effects)
 }
 
-/// The replies that end the requests that are meant, from this mark on.
-pub fn ended_by(
-    alloc: Global,
-    pending: &[Waiting],
-    which: &Which<'_>,
-    mark: u64,
-    how: How,
-) -> Mem<List<Effect>>
+/// The replies that end these requests, from this mark on.
+fn ended_by(alloc: Global, those: &[&Waiting], mark: u64, how: How) -> Mem<List<Effect>>
     requires { mark < 2 ^ 33 }
-    ensures { IfOk result (λ effects. effects ≡ map Effect.Reply (ended mark how (filter (is_meant which.now) pending.now))) }
+    ensures { IfOk result (λ effects. effects ≡ map Effect.Reply (ended mark how (map (λ waiting. waiting.now) those.now))) }
 {
     let mut effects = List::new(alloc);
-    for waiting in pending {
-        if which.means(waiting) {
-            let mark = mark + effects.len() as u64;
-            let reply = end_reply(alloc, waiting, mark, how)?;
-            effects.push(Effect::Reply(reply))?;
-        }
+    for waiting in those {
+        let mark = mark + effects.len() as u64;
+        let reply = end_reply(alloc, waiting, mark, how)?;
+        effects.push(Effect::Reply(reply))?;
     }
     Ok(effects)
 }

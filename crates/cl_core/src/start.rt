@@ -2,9 +2,10 @@ ghost use Rattle.std.specs.Prelude.{◌≡◌, ◌∷◌, [], ◌++◌, None, op
 ghost use Rattle.cl_rpc.specs.declared.call.Parsed.TheVariants.{Request};
 ghost use Rattle.cl_store.specs.Docs.{doc_at};
 ghost use Rattle.cl_core.specs.Deciding.{core_refusal, waiting_for};
+ghost use Rattle.cl_core.specs.Numbered.{IsNumbered};
 ghost use Rattle.cl_core.specs.Steps.{IsAsBefore, Takes};
 
-use crate::core_state::Core;
+use crate::core_state::State;
 use crate::event::Effect;
 use crate::note::{note, settle};
 use crate::waiting::Waiting;
@@ -14,8 +15,9 @@ use cl_rpc::{Call, Id};
 use std::alloc::Global;
 
 /// Takes a query that is accepted: it waits, and its job is started.
-pub fn start(alloc: Global, core: &mut Core, id: &Id, path: &Path) -> Mem<List<Effect>>
-    requires { core_refusal core.old id.now (Call.Symbols path.now) ≡ None }
+pub fn start(alloc: Global, core: &mut State, id: &Id, path: &Path) -> Mem<List<Effect>>
+    requires accepted { core_refusal core.old id.now (Call.Symbols path.now) ≡ None }
+    requires numbered { IsNumbered core.old }
     ensures ok { IfOk result (λ all. Takes core.old (Request id.now (Call.Symbols path.now)) core.new all) }
     ensures err { OnErr result (IsAsBefore core.old core.new) }
 {
@@ -27,7 +29,7 @@ pub fn start(alloc: Global, core: &mut Core, id: &Id, path: &Path) -> Mem<List<E
     let length = core.journal.len();
     let messages = core.messages;
     note(alloc, core, effects.as_slice())?;
-    if core.pending.push(waiting).is_err() {
+    if core.pending.push(alloc, waiting).is_err() {
         core.journal.truncate(length);
         core.messages = messages;
         return Err(Memory);
@@ -38,7 +40,7 @@ pub fn start(alloc: Global, core: &mut Core, id: &Id, path: &Path) -> Mem<List<E
 }
 
 /// The request that starts to wait, and its job over the document as it is.
-fn waiting_for(alloc: Global, core: &Core, id: &Id, path: &Path) -> Mem<Option<Waiting>>
+fn waiting_for(alloc: Global, core: &State, id: &Id, path: &Path) -> Mem<Option<Waiting>>
     ensures { IfOk result (λ waiting. option_to_list waiting ≡ waiting_for core.now id.now path.now (doc_at core.now.docs path.now)) }
 {
     let Some(doc) = core.docs.text_at(path) else {

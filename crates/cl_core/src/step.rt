@@ -1,4 +1,8 @@
-use crate::core_state::Core;
+ghost use Rattle.std.specs.Prelude.{IfOk, OnErr};
+ghost use Rattle.cl_core.specs.Numbered.{IsNumbered};
+ghost use Rattle.cl_core.specs.Steps.{IsAsBefore, Steps};
+
+use crate::core_state::{Core, State};
 use crate::ending::end;
 use crate::event::{Effect, Event};
 use crate::job_end::complete;
@@ -28,36 +32,37 @@ impl Core {
         ensures kept { OnErr result ((messages : List Parsed) → StandsFor messages self.old → StandsFor messages self.new) }
         ensures journal { OnErr result (journal_of self.new ≡ journal_of self.old) }
     {
-        let effects = self.advance(alloc, event)?;
+        let effects = advance(alloc, &mut self.state, event)?;
         Ok(effects)
     }
+}
 
-    /// Takes an event, if the session goes on.
-    fn advance(&mut self, alloc: Global, event: Event) -> Mem<List<Effect>>
-        ensures ok { IfOk result (λ effects. Steps self.old event self.new effects) }
-        ensures err { OnErr result (IsAsBefore self.old self.new) }
-    {
-        if self.finished {
-            return Ok(List::new(alloc));
+/// Takes an event, if the session goes on.
+fn advance(alloc: Global, core: &mut State, event: Event) -> Mem<List<Effect>>
+    requires numbered { IsNumbered core.old }
+    ensures ok { IfOk result (λ effects. Steps core.old event core.new effects) }
+    ensures err { OnErr result (IsAsBefore core.old core.new) }
+{
+    if core.finished {
+        return Ok(List::new(alloc));
+    }
+    match event {
+        Event::Message(parsed) => take(alloc, core, &parsed),
+        Event::Done(done) => {
+            let Done { job, answer } = done;
+            complete(
+                alloc,
+                core,
+                &job,
+                job.mark,
+                How::Answered,
+                Out::Answer(answer),
+            )
         }
-        match event {
-            Event::Message(parsed) => take(alloc, self, &parsed),
-            Event::Done(done) => {
-                let Done { job, answer } = done;
-                complete(
-                    alloc,
-                    self,
-                    &job,
-                    job.mark,
-                    How::Answered,
-                    Out::Answer(answer),
-                )
-            }
-            Event::NoMemory(job) => {
-                let mark = self.journal.len() as u64;
-                complete(alloc, self, &job, mark, How::Memory, Out::Error(-32803))
-            }
-            Event::End(ending) => end(alloc, self, ending),
+        Event::NoMemory(job) => {
+            let mark = core.journal.len() as u64;
+            complete(alloc, core, &job, mark, How::Memory, Out::Error(-32803))
         }
+        Event::End(ending) => end(alloc, core, ending),
     }
 }

@@ -1,9 +1,10 @@
 ghost use Rattle.std.specs.Prelude.{◌≡◌, ◌+◌, ◌∷◌, [], ◌++◌, Some, None, OnOk, OnErr, IfOk, map};
 ghost use Rattle.cl_rpc.specs.declared.call.Parsed.TheVariants.{Notification, Request};
 ghost use Rattle.cl_core.specs.Deciding.{core_refusal, replies_of, left_waiting};
+ghost use Rattle.cl_core.specs.Numbered.{IsNumbered};
 ghost use Rattle.cl_core.specs.Steps.{IsAsBefore, Takes, entries_of, finish, finishes};
 
-use crate::core_state::Core;
+use crate::core_state::State;
 use crate::edits::{cancel, change, open};
 use crate::ending::exit;
 use crate::event::Effect;
@@ -16,7 +17,8 @@ use cl_rpc::{Call, Id, Parsed};
 use std::alloc::Global;
 
 /// Takes a message.
-pub fn take(alloc: Global, core: &mut Core, parsed: &Parsed) -> Mem<List<Effect>>
+pub fn take(alloc: Global, core: &mut State, parsed: &Parsed) -> Mem<List<Effect>>
+    requires numbered { IsNumbered core.old }
     ensures ok { IfOk result (λ effects. Takes core.old parsed.now core.new effects) }
     ensures err { OnErr result (IsAsBefore core.old core.new) }
 {
@@ -31,12 +33,13 @@ pub fn take(alloc: Global, core: &mut Core, parsed: &Parsed) -> Mem<List<Effect>
 /// Takes a request, whose replies are these.
 fn request(
     alloc: Global,
-    core: &mut Core,
+    core: &mut State,
     id: &Id,
     call: &Call,
     effects: List<Effect>,
 ) -> Mem<List<Effect>>
-    requires { effects ≡ map Effect.Reply (replies_of core.old (Request id.now call.now)) }
+    requires replies { effects ≡ map Effect.Reply (replies_of core.old (Request id.now call.now)) }
+    requires numbered { IsNumbered core.old }
     ensures ok { IfOk result (λ all. Takes core.old (Request id.now call.now) core.new all) }
     ensures err { OnErr result (IsAsBefore core.old core.new) }
 {
@@ -62,7 +65,7 @@ fn request(
 /// Takes a notification, after which these replies come.
 fn notification(
     alloc: Global,
-    core: &mut Core,
+    core: &mut State,
     call: &Call,
     effects: List<Effect>,
 ) -> Mem<List<Effect>>

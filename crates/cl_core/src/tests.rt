@@ -1,6 +1,7 @@
 //! Worked examples of a session's core. In the table a line `new` begins a session in which `/a.c` is open with the
 //! text `int a;`, and every other line is an event with what it must give: `ask`, `cancel` and `shutdown` have an id,
-//! and `done` has the number of a job, from 0, in the order in which the jobs were started.
+//! `ask-text` and `cancel-text` have one that is a text, and `done` has the number of a job, from 0, in the order in
+//! which the jobs were started.
 
 use crate::core_state::Core;
 use crate::event::{Effect, Ending, Event};
@@ -69,7 +70,9 @@ fn event_of(alloc: Global, jobs: &[Job], line: &str) -> Mem<Event> {
     Ok(match word {
         "ask" => request(id, Call::Symbols(path)),
         "shutdown" => request(id, Call::Shutdown),
+        "ask-text" => request(text_id(alloc, number)?, Call::Symbols(path)),
         "cancel" => notification(Call::Cancel(id)),
+        "cancel-text" => notification(Call::Cancel(text_id(alloc, number)?)),
         "change" => {
             let text = Text::new(alloc, b"int b;")?;
             notification(Call::DidChange(path, 2, Some(text)))
@@ -98,6 +101,11 @@ fn end_of(alloc: Global, jobs: &[Job], number: u8) -> Mem<Event> {
         JobAnswer::Done(done) => Event::Done(done),
         JobAnswer::Memory(job) => Event::NoMemory(job),
     })
+}
+
+fn text_id(alloc: Global, byte: u8) -> Mem<Id> {
+    let text = Text::new(alloc, &[byte])?;
+    Ok(Id::Text(text))
 }
 
 fn digit_of(text: &str) -> u8 {
@@ -191,6 +199,14 @@ ask 9 => 9 -32600.
 exit => 
 done 0 => 7 answer a.finish 0.
 ask 1 => 
+new
+ask-text 7 => job.
+ask 7 => job.
+ask-text 7 => -1 -32600.
+cancel-text 8 => 
+cancel-text 7 => -1 -32800.
+done 0 => 
+done 1 => 7 answer a.
 new
 exit => finish 1.
 new

@@ -66,7 +66,7 @@ none_mapped f (x ∷ xs) e = absurd (cc)
 -- where no job is out no request is pending
 none_pending : (messages : List Parsed) (core : Core) → StandsFor messages core → jobs_out core ≡ [] → pending messages (past_of core) ≡ []
 none_pending messages core stands none =
-    sym stands.waiting ∙ ap (map (λ (w : Waiting). w.job.message)) (none_mapped (λ (w : Waiting). w.job) core.pending.items none)
+    sym stands.waiting ∙ ap (map (λ (w : Waiting). w.job.message)) (none_mapped (λ (w : Waiting). w.job) core.pending none)
 
 -- ---- a session that ended
 

@@ -1,17 +1,14 @@
-use Rattle.std.proofs.Common.{sym}
-use Rattle.cl_core.specs.Waiting.{is_meant}
-use Rattle.cl_core.proofs.Ended.{passed_over, pushed}
+use Rattle.std.proofs.Common.{◌≡◌, ap, sym, ◌∙◌, map, take, ◌++◌, ◌+◌, ◌∷◌, []}
+use Rattle.std.proofs.lemmas.List.{take_more, map-append}
+use Rattle.cl_core.proofs.Ended.{pushed}
 use Rattle.cl_core.proofs.replies.ended_by.Goals as goal
-use Rattle.cl_core.proofs.replies.ended_by.Goals.{then-means+in_ok-reply+in_ok-push, else-means}
 
 pub loop-waiting-preserved : goal.loop-waiting-preserved
 loop-waiting-preserved c =
-    elim c.if-means.branch [
-      | then-means+in_ok-reply+in_ok-push w ↦
-          rw w.effects-is
-          (pushed _ _ (is_meant c.args.which.now) _ _ _ _ _ _ c.loop-waiting-test.true c.waiting-item.is (sym w.if-means.ensures) c.loop-waiting.invariant
-          (rw (← w.len.ensures.value) w.in_ok-reply.ensures) w.in_ok-push.ensures.ok)
-      | else-means w ↦
-          rw (w.effects-is, passed_over (is_meant c.args.which.now) _ _ _ c.loop-waiting-test.true c.waiting-item.is (sym w.if-means.ensures))
-          c.loop-waiting.invariant
-    ]
+    let item = c.waiting-item.result in
+    let more : map (λ w. w.now) (take (c.loop-waiting.waiting-index + 1) c.args.those.now) ≡ map (λ w. w.now) (take c.loop-waiting.waiting-index c.args.those.now) ++ item.now ∷ [] =
+    ap (map (λ w. w.now)) (take_more c.args.those.now c.loop-waiting.waiting-index item c.loop-waiting-test.true ∙ ap (λ x. take c.loop-waiting.waiting-index c.args.those.now ++ x ∷ []) (sym c.waiting-item.is))
+    ∙ map-append (λ w. w.now) (take c.loop-waiting.waiting-index c.args.those.now) (item ∷ []) in
+    rw more
+    (pushed c.args.mark c.args.how (map (λ w. w.now) (take c.loop-waiting.waiting-index c.args.those.now)) item.now c.loop-waiting.effects c.push.new.self c.in_ok-reply.reply c.loop-waiting.invariant
+    (rw (← c.len.ensures.value) c.in_ok-reply.ensures) c.in_ok-push.ensures.ok)

@@ -143,9 +143,9 @@ messages_ended mark h (w ∷ ws) = ap (λ (ns : List ℕ). w.job.message ∷ ns)
 
 after_ended : (messages : List Parsed) (core : Core) (f : Waiting → Bool) (g : Parsed → Bool) (mark : ℕ) (h : How)
     → ((w : Waiting) → f w ≡ g (parsed.Request w.id (call.Symbols w.job.path))) → StandsFor messages core
-    → map number_of (filter (λ w. not (f w)) core.pending.items) ≡ without_all (map message_of (ended mark h (filter f core.pending.items))) (map number_of core.pending.items)
+    → map number_of (filter (λ w. not (f w)) core.pending) ≡ without_all (map message_of (ended mark h (filter f core.pending))) (map number_of core.pending)
 after_ended messages core f g mark h same stands =
-    let ws = core.pending.items in
+    let ws = core.pending in
     same_filter messages (past_of core) (λ w. not (f w)) (λ p. not (g p)) (λ w. ap not (same w)) ws stands.asks
     ∙ sym (without_passed (λ n. g (said messages n)) (map number_of ws))
     ∙ ap (λ (ms : List ℕ). without_all ms (map number_of ws)) (sym (messages_ended mark h (filter f ws) ∙ same_filter messages (past_of core) f g same ws stands.asks))
@@ -156,7 +156,7 @@ after_if true mark h some left all e = e
 after_if false mark h some left all e = refl
 
 after_notice : (messages : List Parsed) (core : Core) (c : Call) (mark : ℕ) → StandsFor messages core
-    → map number_of (left_waiting core c) ≡ without_all (map message_of (ended mark (how_ended c) (ended_waiting core c))) (map number_of core.pending.items)
+    → map number_of (left_waiting core c) ≡ without_all (map message_of (ended mark (how_ended c) (ended_waiting core c))) (map number_of core.pending)
 after_notice messages core call.Initialize mark stands = refl
 after_notice messages core call.Shutdown mark stands = refl
 after_notice messages core call.Exit mark stands = refl
@@ -164,8 +164,8 @@ after_notice messages core (call.DidOpen path version text) mark stands =
     after_ended messages core (λ w. bytes_eq w.job.path path) (asks_on path) mark how.Modified (λ w. refl) stands
 after_notice messages core (call.DidChange path version None) mark stands = refl
 after_notice messages core (call.DidChange path version (Some text)) mark stands =
-    after_if (is_some (doc_at core.docs path)) mark how.Modified (filter (λ w. bytes_eq w.job.path path) core.pending.items)
-    (filter (λ w. not (bytes_eq w.job.path path)) core.pending.items) core.pending.items
+    after_if (is_some (doc_at core.docs path)) mark how.Modified (filter (λ w. bytes_eq w.job.path path) core.pending)
+    (filter (λ w. not (bytes_eq w.job.path path)) core.pending) core.pending
     (after_ended messages core (λ w. bytes_eq w.job.path path) (asks_on path) mark how.Modified (λ w. refl) stands)
 after_notice messages core (call.DidClose path) mark stands = refl
 after_notice messages core (call.Cancel i) mark stands =
@@ -181,18 +181,18 @@ if_initialised false rs left ws e = none_started ws (map number_of ws) refl
 
 after_message : (messages : List Parsed) (core : Core) (p : Parsed) → StandsFor messages core
     → map number_of (pending_after core p)
-    ≡ without_all (map message_of (replies_of core p)) (map number_of core.pending.items ++ (if is_query p then core.messages ∷ [] else []))
+    ≡ without_all (map message_of (replies_of core p)) (map number_of core.pending ++ (if is_query p then core.messages ∷ [] else []))
 after_message messages core (parsed.Request i c) stands =
-    after_request core core.pending.items (map number_of core.pending.items) (length core.journal + 1) i (core_refusal core i c) c
-    (not_waiting messages (past_of core) core.messages stands.count core.pending.items stands.asks) refl
-    (open_if_accepted core.initialised core.shut_down (list_any (has_id i) core.pending.items) (is_open (texts_of core.docs) (document_of c)) c)
+    after_request core core.pending (map number_of core.pending) (length core.journal + 1) i (core_refusal core i c) c
+    (not_waiting messages (past_of core) core.messages stands.count core.pending stands.asks) refl
+    (open_if_accepted core.initialised core.shut_down (list_any (has_id i) core.pending) (is_open (texts_of core.docs) (document_of c)) c)
 after_message messages core (parsed.Notification c) stands =
-    if_initialised core.initialised (ended (length core.journal + 1) (how_ended c) (ended_waiting core c)) (left_waiting core c) core.pending.items
+    if_initialised core.initialised (ended (length core.journal + 1) (how_ended c) (ended_waiting core c)) (left_waiting core c) core.pending
     (after_notice messages core c (length core.journal + 1) stands)
-after_message messages core parsed.Ignored stands = none_started core.pending.items (map number_of core.pending.items) refl
+after_message messages core parsed.Ignored stands = none_started core.pending (map number_of core.pending) refl
 after_message messages core (parsed.Refused i code) stands =
-    replied_at_once false core.messages core.pending.items (map number_of core.pending.items)
-    (not_waiting messages (past_of core) core.messages stands.count core.pending.items stands.asks) refl
+    replied_at_once false core.messages core.pending (map number_of core.pending)
+    (not_waiting messages (past_of core) core.messages stands.count core.pending stands.asks) refl
 
 -- the requests that wait after a message are those that are pending after its replies
 pub still_pending : (messages : List Parsed) (core : Core) (p : Parsed) → slice_get messages core.messages ≡ Some p → StandsFor messages core

@@ -1,0 +1,20 @@
+use Rattle.std.proofs.Common.{◌≡◌, ap, rules, ◌∷◌, [], filter, nat_eq}
+use Rattle.cl_core.proofs.Indexed.{the_one, none_of, contains_one}
+use Rattle.cl_core.proofs.pending.Pending.waiting_for.Goals as goal
+
+pub returns-in-true-clause-found : goal.returns-in-true-clause-found
+returns-in-true-clause-found c =
+    let one : c.in-Some.waiting.now ∷ [] ≡ filter (λ w. nat_eq w.job.message c.args.job.now.message) c.args.self.now = search rules in
+    let same_job : c.in-Some.waiting.now.job ≡ c.args.job.now = search rules in
+    (same_job, contains_one c.args.job.now.message c.in-Some.waiting.now c.args.self.now one)
+
+pub returns-in-false-clause-out : goal.returns-in-false-clause-out
+returns-in-false-clause-out c = λ _ v among e.
+    let one : c.in-Some.waiting.now ∷ [] ≡ filter (λ w. nat_eq w.job.message c.args.job.now.message) c.args.self.now = search rules in
+    let other : c.in-Some.waiting.now.job ≡ c.args.job.now → ⊥ = λ h. search (rules, c.same.ensures.1 h) in
+    the_one (λ w. w.job ≡ c.args.job.now → ⊥) c.args.job.now.message c.in-Some.waiting.now v c.args.self.now one other among (ap (λ job. job.message) e) e
+
+pub returns-in-None-clause-out : goal.returns-in-None-clause-out
+returns-in-None-clause-out c = λ _ v among e.
+    let none : [] ≡ filter (λ w. nat_eq w.job.message c.args.job.now.message) c.args.self.now = search rules in
+    none_of c.args.job.now.message v c.args.self.now none among (ap (λ job. job.message) e)
