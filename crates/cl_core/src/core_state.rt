@@ -1,6 +1,7 @@
 use crate::event::Entry;
 use crate::pending::Pending;
-use cl_base::List;
+use cl_base::{List, Mem};
+use cl_headers::HeaderMap;
 use cl_store::Docs;
 use std::alloc::Global;
 use std::marker::Model;
@@ -41,7 +42,8 @@ impl Model for Core {
 }
 
 impl Core {
-    ghost use Rattle.std.specs.Prelude.{◌≡◌, [], List};
+    ghost use Rattle.std.specs.Prelude.{◌≡◌, ℕ, [], List, None, IfOk};
+    ghost use Rattle.cl_headers.specs.Headers.{known_at};
     ghost use Rattle.cl_rpc.specs.declared.call.Parsed.{Parsed};
     ghost use Rattle.cl_core.specs.Standing.{IsIdle, StandsFor, journal_of};
 
@@ -71,6 +73,14 @@ impl Core {
         ensures { result.now ≡ journal_of self.now }
     {
         &self.state.journal
+    }
+
+    /// What is known of the headers of the session. No header is read yet, so nothing is known of any path.
+    pub fn headers(&self, alloc: Global) -> Mem<HeaderMap>
+        ensures { IfOk result (λ headers. (path : List ℕ) → known_at headers path ≡ None) }
+    {
+        let _core = self;
+        Ok(HeaderMap::new(alloc))
     }
 
     /// The entries, the oldest first; the session is over.

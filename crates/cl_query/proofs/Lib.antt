@@ -1,4 +1,3 @@
-mod Order
 mod Places
 mod Found
-mod Ahead
+mod Listed

@@ -1,32 +1,15 @@
--- Where the three tokens of a declaration lie.
-use Rattle.std.proofs.Common.{ℕ, ◌<◌, ◌≤◌, ◌+◌, List, arith, length}
+-- Where the tokens lie, by their numbers.
+use Rattle.std.proofs.Common.{ℕ, ◌≤◌, suc, zero, List, [], ◌∷◌, arith}
 use Rattle.cl_base.specs.declared.token.PpToken.{PpToken}
 use Rattle.cl_parse.specs.Tokens.{span_at}
-use Rattle.cl_query.specs.Spread.{LieInOrder}
-use Rattle.cl_query.proofs.Order.{lies, follows}
+use Rattle.cl_pp.specs.Places.{LieWithin}
 
-pub record Places (text : List ℕ) (tokens : List PpToken) (at : ℕ) : Type 0 where
-  pub start : (span_at tokens at).from ≤ length text
-  pub name_after : (span_at tokens at).from ≤ (span_at tokens (at + 1)).from
-  pub name_start : (span_at tokens (at + 1)).from ≤ length text
-  pub name : (span_at tokens (at + 1)).from ≤ (span_at tokens (at + 1)).to
-  pub name_end : (span_at tokens (at + 1)).to ≤ length text
-  pub end_after : (span_at tokens (at + 1)).to ≤ (span_at tokens (at + 2)).to
-  pub end : (span_at tokens (at + 2)).to ≤ length text
+pub begins_within : (end : ℕ) (tokens : List PpToken) (i : ℕ) → LieWithin end tokens → (span_at tokens i).from ≤ end
+begins_within end [] i h = omega arith
+begins_within end (t ∷ ts) zero h = omega (arith, h.0, h.1)
+begins_within end (t ∷ ts) (suc i) h = begins_within end ts i h.2
 
-pub places : (text : List ℕ) (tokens : List PpToken) (at : ℕ) → LieInOrder 0 (length text) tokens → at + 2 < length tokens → Places text tokens at
-places text tokens at h l =
-    let a = lies 0 (length text) tokens h at (omega arith) in
-    let b = lies 0 (length text) tokens h (at + 1) (omega arith) in
-    let c = lies 0 (length text) tokens h (at + 2) (omega arith) in
-    let ab = follows 0 (length text) tokens h at (at + 1) (omega arith) (omega arith) in
-    let bc = follows 0 (length text) tokens h (at + 1) (at + 2) (omega arith) (omega arith) in
-    record {
-      start = omega (arith, a.order, a.within);
-      name_after = omega (arith, a.order, ab);
-      name_start = omega (arith, b.order, b.within);
-      name = omega (arith, b.order);
-      name_end = b.within;
-      end_after = omega (arith, bc, c.order);
-      end = c.within;
-    }
+pub ends_within : (end : ℕ) (tokens : List PpToken) (i : ℕ) → LieWithin end tokens → (span_at tokens i).to ≤ end
+ends_within end [] i h = omega arith
+ends_within end (t ∷ ts) zero h = h.1
+ends_within end (t ∷ ts) (suc i) h = ends_within end ts i h.2

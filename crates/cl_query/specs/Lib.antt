@@ -1,4 +1,3 @@
-pub mod Spread
 pub mod Symbols
 pub mod AnswerOf
 pub mod Worked

@@ -5,11 +5,10 @@ ghost use Rattle.cl_query.specs.AnswerOf.{AnswerOf};
 
 use crate::job::Job;
 use crate::query::Query;
-use crate::spread::spread_all;
 use crate::symbols::symbols;
 use cl_base::{Answer, Mem};
-use cl_lex::lex;
 use cl_parse::items;
+use cl_pp::preprocess;
 use std::alloc::Global;
 
 /// The answer of a job.
@@ -19,10 +18,9 @@ pub(crate) fn answer_of(alloc: Global, job: &Job) -> Mem<Answer>
     match job.kind {
         Query::Symbols => {
             let text = job.text.bytes();
-            let lexed = lex(alloc, text)?;
-            let tokens = spread_all(alloc, lexed.tokens.as_slice())?;
-            let items = items(alloc, tokens.as_slice())?;
-            let symbols = symbols(alloc, text, tokens.as_slice(), items.as_slice())?;
+            let done = preprocess(alloc, text)?;
+            let items = items(alloc, done.tokens.as_slice())?;
+            let symbols = symbols(alloc, text, done.tokens.as_slice(), items.as_slice())?;
             Ok(Answer::Symbols(symbols))
         }
     }

@@ -7,7 +7,6 @@ mod job;
 mod laws;
 mod query;
 mod run;
-mod spread;
 mod symbols;
 #[cfg(test)]
 mod tests;

@@ -19,6 +19,10 @@ fn lists_the_symbols(rt: HostRuntime) -> Result<(), Memory> {
         ("int x;\n", "13 x 0:0-0:6 0:4-0:5 0;"),
         ("int x; int y", "13 x 0:0-0:6 0:4-0:5 0;"),
         (
+            "#if 0\nint a;\n#else\nint b;\n#endif\n",
+            "13 b 3:0-3:6 3:4-3:5 0;",
+        ),
+        (
             "int a; /* int b; */ int\\\n c; \"int d;\"; // int e;\n??=\nint \u{1F600}; /*\u{1F600}*/int f;",
             "13 a 0:0-0:6 0:4-0:5 0;13 c 0:20-1:3 1:1-1:2 0;13 f 3:14-3:20 3:18-3:19 0;",
         ),

@@ -1,16 +1,16 @@
-use Rattle.std.proofs.Common.{length}
+use Rattle.std.proofs.Common.{subst, sym}
+use Rattle.cl_base.specs.declared.token.PpToken.{PpToken}
+use Rattle.std.proofs.Common.{List, length}
+use Rattle.cl_pp.specs.Places.{LieWithin}
 use Rattle.cl_query.proofs.Found.{found}
-use Rattle.cl_query.proofs.Order.{lie_found}
 use Rattle.cl_query.proofs.answers.answer_of.Goals as goal
 
 pub symbols-requires-clause-lie : goal.symbols-requires-clause-lie
-symbols-requires-clause-lie c =
-    lie_found (length c.bytes-text.result.now) c.in_ok-lexed.lexed.tokens c.as_slice.result.now c.in_ok-tokens.tokens c.as_slice-3.result.now
-    c.as_slice.ensures.value c.in_ok-tokens.ensures c.as_slice-3.ensures.value c.in_ok-lexed.ensures.order
+symbols-requires-clause-lie c = subst (λ (ts : List PpToken). LieWithin (length c.bytes-text.result.now) ts) (sym c.as_slice-2.ensures.value) c.in_ok-done.ensures.within
 
 pub returns : goal.returns
 returns c =
-    found c.args.job.now.kind c.args.job.now.path c.args.job.now.text c.bytes-text.result.now c.in_ok-lexed.lexed c.as_slice.result.now c.in_ok-tokens.tokens
-    c.as_slice-2.result.now c.as_slice-3.result.now c.in_ok-items.items c.as_slice-4.result.now c.in_ok-symbols.symbols
-    c.bytes-text.ensures.value c.as_slice.ensures.value c.in_ok-tokens.ensures c.as_slice-2.ensures.value c.as_slice-3.ensures.value c.as_slice-4.ensures.value
-    c.in_ok-lexed.ensures.lexes c.in_ok-items.ensures c.in_ok-symbols.ensures
+    found c.args.job.now.kind c.args.job.now.path c.args.job.now.text c.bytes-text.result.now c.in_ok-done.done c.as_slice.result.now c.as_slice-2.result.now
+    c.in_ok-items.items c.as_slice-3.result.now c.in_ok-symbols.symbols
+    c.bytes-text.ensures.value c.as_slice.ensures.value c.as_slice-2.ensures.value c.as_slice-3.ensures.value
+    c.in_ok-done.ensures.done c.in_ok-items.ensures c.in_ok-symbols.ensures

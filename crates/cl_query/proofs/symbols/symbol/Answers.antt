@@ -1,39 +1,28 @@
-use Rattle.std.proofs.Common.{refl}
+use Rattle.std.proofs.Common.{refl, length, ◌+◌}
 use Rattle.cl_query.specs.Symbols.{symbol_at}
-use Rattle.cl_query.proofs.Places.{places}
+use Rattle.cl_query.proofs.Places.{begins_within, ends_within}
 use Rattle.cl_query.proofs.symbols.symbol.Goals as goal
 
-pub moved-start-requires-clause-within : goal.moved-start-requires-clause-within
-moved-start-requires-clause-within c = rw c.span_at-first.ensures (places _ _ _ c.requires.lie c.requires.within).start
+pub reached-start-requires-clause-within : goal.reached-start-requires-clause-within
+reached-start-requires-clause-within c = rw c.span_at-first.ensures (begins_within (length c.args.text.now) c.args.tokens.now c.args.at c.requires.lie)
 
-pub moved-name_start-requires-clause-order : goal.moved-name_start-requires-clause-order
-moved-name_start-requires-clause-order c =
-    rw (c.moved-start.ensures.offset, c.span_at-first.ensures, c.span_at-name_span.ensures) (places _ _ _ c.requires.lie c.requires.within).name_after
+pub reached-name_start-requires-clause-within : goal.reached-name_start-requires-clause-within
+reached-name_start-requires-clause-within c = rw c.span_at-name_span.ensures (begins_within (length c.args.text.now) c.args.tokens.now (c.args.at + 1) c.requires.lie)
 
-pub moved-name_start-requires-clause-within : goal.moved-name_start-requires-clause-within
-moved-name_start-requires-clause-within c = rw c.span_at-name_span.ensures (places _ _ _ c.requires.lie c.requires.within).name_start
+pub reached-name_end-requires-clause-within : goal.reached-name_end-requires-clause-within
+reached-name_end-requires-clause-within c = rw c.span_at-name_span.ensures (ends_within (length c.args.text.now) c.args.tokens.now (c.args.at + 1) c.requires.lie)
 
-pub moved-name_end-requires-clause-order : goal.moved-name_end-requires-clause-order
-moved-name_end-requires-clause-order c = rw (c.moved-name_start.ensures.offset, c.span_at-name_span.ensures) (places _ _ _ c.requires.lie c.requires.within).name
-
-pub moved-name_end-requires-clause-within : goal.moved-name_end-requires-clause-within
-moved-name_end-requires-clause-within c = rw c.span_at-name_span.ensures (places _ _ _ c.requires.lie c.requires.within).name_end
-
-pub moved-end-requires-clause-order : goal.moved-end-requires-clause-order
-moved-end-requires-clause-order c =
-    rw (c.moved-name_end.ensures.offset, c.span_at-name_span.ensures, c.span_at-last.ensures) (places _ _ _ c.requires.lie c.requires.within).end_after
-
-pub moved-end-requires-clause-within : goal.moved-end-requires-clause-within
-moved-end-requires-clause-within c = rw c.span_at-last.ensures (places _ _ _ c.requires.lie c.requires.within).end
+pub reached-end-requires-clause-within : goal.reached-end-requires-clause-within
+reached-end-requires-clause-within c = rw c.span_at-last.ensures (ends_within (length c.args.text.now) c.args.tokens.now (c.args.at + 2) c.requires.lie)
 
 pub returns-clause-symbol : goal.returns-clause-symbol
 unfolding symbol_at
 returns-clause-symbol c =
     rw (
-      c.moved-start.ensures.position,
-      c.moved-end.ensures.position,
-      c.moved-name_start.ensures.position,
-      c.moved-name_end.ensures.position,
+      c.reached-start.ensures.position,
+      c.reached-end.ensures.position,
+      c.reached-name_start.ensures.position,
+      c.reached-name_end.ensures.position,
       c.span_at-first.ensures,
       c.span_at-name_span.ensures,
       c.span_at-last.ensures,

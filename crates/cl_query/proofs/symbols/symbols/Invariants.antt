@@ -1,5 +1,10 @@
-use Rattle.cl_query.proofs.Ahead.{Kept}
+use Rattle.std.proofs.Common.{◌≡◌}
+use Rattle.cl_base.specs.Lines.{position_at}
+use Rattle.cl_query.proofs.Listed.{Listed}
 use Rattle.cl_query.proofs.symbols.symbols.Given as goal
 
 abbrev pub invariant-loop-item : goal.invariant-loop-item
-invariant-loop-item l = Kept l.text l.tokens l.items l.item-index l.symbols l.cursor
+invariant-loop-item l = record {
+  stands : l.cursor.position ≡ position_at l.text l.cursor.offset;
+  listed : Listed l.text l.tokens l.items l.item-index l.symbols;
+}

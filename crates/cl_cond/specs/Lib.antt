@@ -1,0 +1,13 @@
+pub mod Lines
+pub mod Sections
+pub mod Nesting
+pub mod Grouping
+pub mod Numbers
+pub mod Operators
+pub mod Integers
+pub mod Characters
+pub mod Words
+pub mod Outcomes
+pub mod Expressions
+pub mod Machine
+pub mod Conditions

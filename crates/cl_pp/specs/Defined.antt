@@ -1,0 +1,73 @@
+-- The tokens of a condition (N1570 6.10.1p1): `defined NAME` and `defined ( NAME )` are taken first. No macro is defined
+-- at this stage, so each is 0.
+use Rattle.std.specs.Prelude.{ℕ, zero, suc, ◌-◌, ◌==◌, ◌&&◌, List, [], ◌∷◌, Bool, true, false, if◌then◌else◌, Option, Some, None, slice_get, nat_eq, codes}
+use Rattle.std.specs.Cmp.Lexicographic.{pointwise}
+use Rattle.cl_base.specs.declared.token.Kind.{Kind}
+use Rattle.cl_base.specs.declared.token.Kind.TheVariants as kind
+use Rattle.cl_base.specs.declared.token.Span.{Span}
+use Rattle.cl_base.specs.declared.token.Token.{Token}
+use Rattle.cl_base.specs.declared.token.PpToken.{PpToken}
+
+-- a token of the document, which is the file 0
+abbrev pub span_at : ℕ → ℕ → Span
+span_at from to = record { file = 0; from = from; to = to }
+
+abbrev pub spread : Token → PpToken
+spread token = record { kind = token.kind; text = token.text; space = token.space; spell = Some (span_at token.from token.to); at = span_at token.from token.to }
+
+abbrev pub is_ident : Kind → Bool
+is_ident kind.Ident = true
+is_ident _ = false
+
+abbrev pub is_word : Token → List ℕ → Bool
+is_word token word = is_ident token.kind && pointwise nat_eq token.text word
+
+abbrev pub is_mark : Token → List ℕ → Bool
+is_mark token text = pointwise nat_eq token.text text
+
+-- how many tokens are the operand of a `defined` before them: a name, or a name in parentheses; 0 where none stands there
+abbrev pub closed_len : Bool → List Token → ℕ
+closed_len named [] = 0
+closed_len named (c ∷ ts) = if named && is_mark c (codes ")") then 3 else 0
+
+abbrev pub named_len : List Token → ℕ
+named_len [] = 0
+named_len (b ∷ ts) = closed_len (is_ident b.kind) ts
+
+abbrev pub operand_len : List Token → ℕ
+operand_len [] = 0
+operand_len (a ∷ ts) = if is_ident a.kind then 1 else if is_mark a (codes "(") then named_len ts else 0
+
+-- and how many follow this token that belong to it
+abbrev pub taken : Token → List Token → ℕ
+taken token ts = if is_word token (codes "defined") then operand_len ts else 0
+
+-- where the last of so many tokens ends that follow this one
+abbrev pub end_of : Option Token → ℕ → ℕ
+end_of None to = to
+end_of (Some token) to = token.to
+
+abbrev pub end_after : Token → ℕ → List Token → ℕ
+end_after token n ts = end_of (slice_get ts (n - 1)) token.to
+
+-- a number 0 in place of the token and those that belong to it
+abbrev pub zero_for : Token → ℕ → List Token → PpToken
+zero_for token n ts = record {
+  kind = kind.Number;
+  text = codes "0";
+  space = token.space;
+  spell = None;
+  at = span_at token.from (end_after token n ts);
+}
+
+abbrev pub replaced : Token → List Token → PpToken
+replaced token ts = if taken token ts == 0 then spread token else zero_for token (taken token ts) ts
+
+-- the tokens of a condition, where so many belong to what is before
+abbrev pub decided_from : ℕ → List Token → List PpToken
+decided_from n [] = []
+decided_from (suc n) (t ∷ ts) = decided_from n ts
+decided_from zero (t ∷ ts) = replaced t ts ∷ decided_from (taken t ts) ts
+
+abbrev pub decided : List Token → List PpToken
+decided tokens = decided_from 0 tokens

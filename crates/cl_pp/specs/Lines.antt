@@ -1,0 +1,165 @@
+-- What a line of the file gives: its tokens, and its faults (N1570 6.10).
+use Rattle.std.specs.Prelude.{◌≡◌, ℕ, zero, suc, ◌+◌, ◌-◌, ◌==◌, ◌&&◌, ◌||◌, not, List, [], ◌∷◌, ◌++◌, Bool, true, false, if◌then◌else◌, Option, Some, None, map, length, slice_get, slice_range, codes}
+use Rattle.cl_base.specs.declared.token.Kind.{Kind}
+use Rattle.cl_base.specs.declared.token.Kind.TheVariants as kind
+use Rattle.cl_base.specs.declared.token.Span.{Span}
+use Rattle.cl_base.specs.declared.token.Token.{Token}
+use Rattle.cl_base.specs.declared.token.PpToken.{PpToken}
+use Rattle.cl_base.specs.declared.token.Fault.{Fault}
+use Rattle.cl_base.specs.declared.token.Diag.{Diag}
+use Rattle.cl_base.specs.Characters.{char_len}
+use Rattle.cl_cond.specs.declared.eval.IfValue.{IfValue}
+use Rattle.cl_cond.specs.declared.eval.IfValue.TheVariants.{Value, BadIf}
+use Rattle.cl_cond.specs.declared.mark.Condition.{Condition}
+use Rattle.cl_cond.specs.declared.mark.Condition.TheVariants.{If, IfDef, IfNDef, Elif, Else}
+use Rattle.cl_cond.specs.declared.mark.Mark.{Mark}
+use Rattle.cl_cond.specs.declared.mark.Part.{Part}
+use Rattle.cl_cond.specs.declared.mark.Part.TheVariants.{Line, Branch, End}
+use Rattle.cl_cond.specs.Lines.{is_hash}
+use Rattle.cl_pp.specs.Defined.{decided, is_ident, is_word, span_at, spread}
+
+abbrev pub diag : ℕ → ℕ → ℕ → Diag
+diag number from to = record { number = number; at = span_at from to; name = None }
+
+abbrev pub fault_at : ℕ → Token → List Diag
+fault_at number token = diag number token.from token.to ∷ []
+
+abbrev pub spread_fault : Fault → Diag
+spread_fault fault = diag fault.number fault.from fault.to
+
+-- the tokens of a line
+abbrev pub line_of : List Token → Mark → List Token
+line_of tokens mark = slice_range tokens mark.from mark.to
+
+-- those behind its first two
+abbrev pub rest_of : List Token → List Token
+rest_of (hash ∷ name ∷ rest) = rest
+rest_of _ = []
+
+abbrev pub is_directive : List Token → Bool
+is_directive [] = false
+is_directive (token ∷ tokens) = is_hash token
+
+abbrev pub spread_line : List Token → List PpToken
+spread_line line = map spread line
+
+-- those of an active line; a directive gives none
+abbrev pub plain_tokens : List Token → List PpToken
+plain_tokens line = if is_directive line then [] else spread_line line
+
+-- ---- tokens that fit nothing (6.4p3)
+
+-- an Other token is a lone quote, a byte of no character, a null character, or no fault yet
+abbrev pub stray_number : List ℕ → Option ℕ
+stray_number [] = None
+stray_number (c ∷ cs) =
+    if c == 34 || c == 39 then Some 2 else
+    if char_len (c ∷ cs) 0 == 0 then Some 3 else
+    if c == 0 then Some 4 else None
+
+abbrev pub at_token : Option ℕ → Token → List Diag
+at_token None token = []
+at_token (Some number) token = fault_at number token
+
+abbrev pub stray : Kind → Token → List Diag
+stray kind.Other token = at_token (stray_number token.text) token
+stray _ token = []
+
+abbrev pub strays : List Token → List Diag
+strays [] = []
+strays (token ∷ tokens) = stray token.kind token ++ strays tokens
+
+-- the tokens of `#error` and `#pragma` aren't looked at
+abbrev pub is_unread : Token → Bool
+is_unread name = is_word name (codes "error") || is_word name (codes "pragma")
+
+abbrev pub is_free_text : List Token → Bool
+is_free_text (hash ∷ name ∷ rest) = is_hash hash && is_unread name
+is_free_text _ = false
+
+abbrev pub line_strays : List Token → List Diag
+line_strays line = if is_free_text line then [] else strays line
+
+-- ---- directives
+
+-- tokens behind a directive that is complete
+abbrev pub extra : List Token → List Diag
+extra [] = []
+extra (token ∷ tokens) = fault_at 7 token
+
+-- an identifier alone
+abbrev pub name_alone : Token → List Token → List Diag
+name_alone name [] = fault_at 6 name
+name_alone name (token ∷ rest) = if is_ident token.kind then extra rest else fault_at 6 name
+
+-- an identifier first
+abbrev pub name_first : Token → List Token → List Diag
+name_first name [] = fault_at 6 name
+name_first name (token ∷ rest) = if is_ident token.kind then [] else fault_at 6 name
+
+abbrev pub is_header : Kind → Bool
+is_header kind.Header = true
+is_header _ = false
+
+abbrev pub included : List Token → List Diag
+included [] = []
+included (token ∷ rest) = if is_header token.kind then extra rest else []
+
+abbrev pub named : Token → List Token → List Diag
+named name rest =
+    if is_word name (codes "define") then name_first name rest else
+    if is_word name (codes "undef") then name_alone name rest else
+    if is_word name (codes "include") then included rest else
+    if is_word name (codes "line") || is_unread name then [] else fault_at 5 name
+
+-- a line that is no conditional directive
+abbrev pub plain_faults : List Token → List Diag
+plain_faults (hash ∷ name ∷ rest) = if is_hash hash then named name rest else []
+plain_faults _ = []
+
+abbrev pub alone_in : List Token → List Diag
+alone_in (hash ∷ name ∷ rest) = name_alone name rest
+alone_in _ = []
+
+-- ---- conditions
+
+abbrev pub token_span : Option Token → Span
+token_span (Some token) = span_at token.from token.to
+token_span None = span_at 0 0
+
+-- the token of a condition at a place, and the line's last one where it has none
+abbrev pub span_or : Option PpToken → List Token → Span
+span_or (Some token) line = token.at
+span_or None line = token_span (slice_get line (length line - 1))
+
+abbrev pub bad_if : IfValue → List Token → List Diag
+bad_if (Value bits unsigned) line = []
+bad_if (BadIf place) line = record { number = 15; at = span_or (slice_get (decided (rest_of line)) place) line; name = None } ∷ []
+
+abbrev pub is_true : IfValue → Bool
+is_true (Value bits unsigned) = not (bits == 0)
+is_true (BadIf place) = false
+
+abbrev pub has_name : List Token → Bool
+has_name [] = false
+has_name (token ∷ tokens) = is_ident token.kind
+
+-- a condition that is at fault counts 0, and no macro is defined at this stage
+abbrev pub branch_holds : Condition → List Token → IfValue → Bool
+branch_holds If line value = is_true value
+branch_holds Elif line value = is_true value
+branch_holds IfDef line value = false
+branch_holds IfNDef line value = has_name (rest_of line)
+branch_holds Else line value = true
+
+abbrev pub part_holds : Part → List Token → IfValue → Bool
+part_holds (Branch c) line value = branch_holds c line value
+part_holds _ line value = false
+
+-- the faults of a branch's line that is looked at: a condition is worked only where its branch may be taken
+abbrev pub branch_faults : Condition → Bool → List Token → IfValue → List Diag
+branch_faults If may line value = bad_if value line
+branch_faults IfDef may line value = alone_in line
+branch_faults IfNDef may line value = alone_in line
+branch_faults Elif may line value = if may then bad_if value line else []
+branch_faults Else may line value = extra (rest_of line)

@@ -1,0 +1,116 @@
+use crate::file::preprocess;
+use cl_base::Mem;
+use std::alloc::Global;
+use std::test::Fail;
+
+/// A text, and its tokens, each with its place, and then its faults.
+type Row<'a> = (&'a [u8], &'a str);
+
+#[test]
+fn active_lines_and_faults(rt: HostRuntime) -> Result<(), Fail> {
+    let rows: [Row<'_>; 24] = [
+        (
+            b"#if 0\nint a;\n#else\nint b;\n#endif\n",
+            "int@19 b@23 ;@24 ",
+        ),
+        (b"#if 1\na\n#elif 1/0\nb\n#else\nc\n#endif\n", "a@6 "),
+        (b"#if 0\na\n#elif 1\nb\n#elif 1\nc\n#endif\nd", "b@16 d@35 "),
+        (
+            b"#if 0\n#if 1\na\n#else\nb\n#endif\nc\n#else\nd\n#endif\n",
+            "d@37 ",
+        ),
+        (
+            b"#ifdef X\na\n#else\nb\n#endif\n#ifndef X\nc\n#endif\n",
+            "b@17 c@36 ",
+        ),
+        (b"#if defined X || !defined ( X )\na\n#endif\n", "a@32 "),
+        (
+            b"#if defined\na\n#endif\n#if 1 - defined\nb\n#endif\n",
+            "b@37 ",
+        ),
+        (b"#else\na\n", "a@6 !12@1-5 "),
+        (b"#if 1\na\n#else\nb\n#else\nc\n#endif\n", "a@6 !13@17-21 "),
+        (b"#if 1\na\n#if 0\nb", "a@6 !14@1-3 !14@9-11 "),
+        (b"#if\na\n#endif\n#if 1 +\n#endif\n", "!15@1-3 !15@19-20 "),
+        (b"#if 1/0\na\n#elif 2\nb\n#endif\n", "b@18 !15@5-6 "),
+        (
+            b"#if 0\n#if 1/0\n#ifdef\n#endif 1\n#endif\n#bad\n'\n#endif\n",
+            "",
+        ),
+        (
+            b"#ifdef\n#endif\n#ifndef 1\na\n#endif\n",
+            "!6@1-6 !6@15-21 ",
+        ),
+        (
+            b"#ifdef X Y\n#else Z\n#endif U\n",
+            "!7@9-10 !7@17-18 !7@26-27 ",
+        ),
+        (
+            b"#define\n#define X\n#undef X Y\n#undef\n",
+            "!6@1-7 !7@27-28 !6@30-35 ",
+        ),
+        (
+            b"#include <a> b\n#include X Y\n#line\n#\n# 3\n",
+            "!7@13-14 !5@38-39 ",
+        ),
+        (b"#foo\n a # b\n", "a@6 #@8 b@10 !5@1-4 "),
+        (b"#error '\n#pragma \"\n'", "'@19 !2@19-20 "),
+        (b"/* a", "!1@0-2 "),
+        (b"#if 0\n\"\n/* a\n#endif\n", "!1@8-10 !14@1-3 "),
+        (
+            b"#if '\n#else \"\n#endif\n",
+            "!2@4-5 !15@4-5 !2@12-13 !7@12-13 ",
+        ),
+        (b"%:if 0\na\n%:endif\n??=if 1\nb\n??=endif", "b@25 "),
+        (b"", ""),
+    ];
+    for (text, wanted) in rows {
+        let found = shown(rt.alloc(), text)?;
+        let text = String::from_utf8_lossy(rt.alloc(), text)?;
+        assert!(rt; found.as_str() == wanted, "{found} for {text}");
+    }
+    Ok(())
+}
+
+/// Nesting is as deep as the text is long, and no stack is.
+#[test]
+fn deep_sections_and_parentheses(rt: HostRuntime) -> Result<(), Fail> {
+    let alloc = rt.alloc();
+    let mut text = Vec::new(alloc);
+    for _ in 0..100_000 {
+        text.extend_from_slice(b"#if 1\n")?;
+    }
+    text.extend_from_slice(b"a\n")?;
+    let done = preprocess(alloc, text.as_slice())?;
+    assert!(rt; done.tokens.len() == 1, "one token");
+    assert!(rt; done.faults.len() == 100_000, "no section is ended");
+    let mut text = Vec::new(alloc);
+    text.extend_from_slice(b"#if ")?;
+    for _ in 0..1_000_000 {
+        text.push(b'(')?;
+    }
+    text.push(b'1')?;
+    for _ in 0..1_000_000 {
+        text.push(b')')?;
+    }
+    text.extend_from_slice(b"\na\n#endif\n")?;
+    let done = preprocess(alloc, text.as_slice())?;
+    assert!(rt; done.tokens.len() == 1, "the condition holds");
+    assert!(rt; done.faults.is_empty(), "without a fault");
+    Ok(())
+}
+
+fn shown(alloc: Global, text: &[u8]) -> Mem<String> {
+    let done = preprocess(alloc, text)?;
+    let mut out = String::new(alloc);
+    for token in done.tokens.as_slice() {
+        let spelling = String::from_utf8_lossy(alloc, token.text.bytes())?;
+        let line = format!(in alloc; "{}@{} ", spelling, token.at.from)?;
+        out.push_str(line.as_str())?;
+    }
+    for fault in done.faults.as_slice() {
+        let line = format!(in alloc; "!{}@{}-{} ", fault.number, fault.at.from, fault.at.to)?;
+        out.push_str(line.as_str())?;
+    }
+    Ok(out)
+}
