@@ -30,6 +30,9 @@ fn sessions(rt: HostRuntime) -> Result<(), Fail> {
     }
     let Session { core, .. } = session;
     let length = core.journal().len();
+    let headers = core.headers(alloc)?;
+    let path = Path::new(alloc, "/a.c")?;
+    assert!(rt; headers.get(&path).is_none(), "no header is known");
     assert!(rt; core.into_journal().len() == length);
     Ok(())
 }

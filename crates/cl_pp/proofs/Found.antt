@@ -1,6 +1,6 @@
 -- What was found is the preprocessed file.
 use Rattle.std.proofs.Common.{◌≡◌, ℕ, ◌≤◌, ◌-◌, List, [], ◌∷◌, ◌++◌, sym, ap, subst, ◌∙◌, arith, length, drop, take, zero, suc, append_assoc, map}
-use Rattle.std.specs.Prelude.{Bool, true, false, if◌then◌else◌, Option, Some, None, slice_range}
+use Rattle.std.specs.Prelude.{Bool, true, false, if◌then◌else◌, Option, Some, None}
 use Rattle.cl_base.specs.declared.token.Token.{Token}
 use Rattle.cl_base.specs.declared.token.PpToken.{PpToken}
 use Rattle.cl_base.specs.declared.token.Diag.{Diag}
@@ -18,7 +18,7 @@ use Rattle.cl_cond.specs.declared.trouble.Trouble.{Trouble}
 use Rattle.cl_cond.specs.declared.trouble.Trouble.TheVariants.{Outside, AfterElse, Unended}
 use Rattle.cl_cond.specs.Lines.{Lines}
 use Rattle.cl_cond.specs.Sections.{GroupsOf, kept, kept_line, trouble_of}
-use Rattle.cl_pp.specs.Lines.{is_directive, line_of, plain_tokens, spread_fault, spread_line}
+use Rattle.cl_pp.specs.Lines.{is_directive, line_of, spread_fault, spread_line}
 use Rattle.cl_pp.specs.Places.{LieWithin, MarksLie}
 use Rattle.cl_pp.specs.Preprocessing.{Preprocesses, answers, faults_from, open_comments, tokens_by, tokens_from}
 use Rattle.cl_pp.specs.declared.section.Question.TheVariants.{Active}

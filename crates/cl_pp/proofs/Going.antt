@@ -1,5 +1,5 @@
 -- The lines of a file, one after the other.
-use Rattle.std.proofs.Common.{◌≡◌, ℕ, zero, suc, ◌+◌, ◌<◌, ◌≤◌, List, [], ◌∷◌, ◌++◌, refl, sym, ap, subst, ◌∙◌, arith, length, drop, take, get_or, drop-cons, add-one, append_assoc, append-nil, Bool, true}
+use Rattle.std.proofs.Common.{◌≡◌, ℕ, zero, suc, ◌+◌, ◌<◌, ◌≤◌, List, [], ◌∷◌, ◌++◌, sym, ap, subst, ◌∙◌, arith, length, drop, take, get_or, add-one, append_assoc, append-nil, Bool}
 use Rattle.std.specs.Prelude.{if◌then◌else◌}
 use Rattle.std.specs.Prelude.{reverse}
 use Rattle.std.proofs.Math.Seq.{take-suc}
@@ -13,13 +13,13 @@ use Rattle.cl_cond.specs.declared.mark.Part.{Part}
 use Rattle.cl_cond.specs.declared.mark.Part.TheVariants.{Line, Branch, End}
 use Rattle.cl_cond.specs.Sections.{opens}
 use Rattle.cl_pp.specs.declared.section.Question.{Question}
-use Rattle.cl_pp.specs.declared.section.Question.TheVariants.{Active, Free, Outer}
+use Rattle.cl_pp.specs.declared.section.Question.TheVariants.{Active}
 use Rattle.cl_pp.specs.declared.section.Section.{Section}
 use Rattle.cl_pp.specs.Activity.{says}
-use Rattle.cl_pp.specs.Branches.{HasValue, IsHeld}
+use Rattle.cl_pp.specs.Branches.{IsHeld}
 use Rattle.cl_pp.specs.Lines.{line_of, part_holds}
 use Rattle.cl_pp.specs.Places.{MarksLie}
-use Rattle.cl_pp.specs.Preprocessing.{AreValues, answers, faults_by, faults_from, holds, tokens_by, tokens_from}
+use Rattle.cl_pp.specs.Preprocessing.{answers, faults_by, faults_from, holds, tokens_by, tokens_from}
 use Rattle.cl_pp.specs.Stacks.{stacked, tell, top_of}
 use Rattle.cl_pp.proofs.Standing.{Known, Stand, stand_on, top_answers}
 use Rattle.cl_pp.proofs.Straying.{next_of}

@@ -3,7 +3,6 @@ use Rattle.std.proofs.Common.{◌≡◌, ℕ, zero, suc, List, [], ◌∷◌, re
 use Rattle.std.specs.Prelude.{slice_index_or, not, reverse, if◌then◌else◌}
 use Rattle.std.proofs.lemmas.Bool.{and_parts}
 use Rattle.cl_cond.specs.declared.mark.Mark.{Mark}
-use Rattle.cl_cond.specs.declared.mark.Condition.{Condition}
 use Rattle.cl_cond.specs.declared.mark.Part.{Part}
 use Rattle.cl_cond.specs.declared.mark.Part.TheVariants.{Line, Branch, End}
 use Rattle.cl_cond.specs.Sections.{opens}
@@ -11,7 +10,7 @@ use Rattle.cl_pp.specs.declared.section.Question.{Question}
 use Rattle.cl_pp.specs.declared.section.Question.TheVariants.{Active, Free, Outer}
 use Rattle.cl_pp.specs.declared.section.Section.{Section}
 use Rattle.cl_pp.specs.Activity.{at_branch, by_part, says}
-use Rattle.cl_pp.specs.Stacks.{all_active, below, branched, stacked, tell, top_of, under}
+use Rattle.cl_pp.specs.Stacks.{all_active, below, stacked, tell, top_of, under}
 
 abbrev nth : List Section → ℕ → Section
 nth stack n = slice_index_or stack n all_active

@@ -1,14 +1,11 @@
 -- A text has one list of preprocessed tokens, and one list of faults.
-use Rattle.std.proofs.Common.{◌≡◌, ℕ, List, [], ◌++◌, sym, ap, subst, ◌∙◌, map}
+use Rattle.std.proofs.Common.{◌≡◌, ℕ, List, [], ◌++◌, sym, subst, ◌∙◌, map}
 use Rattle.cl_base.specs.declared.token.Token.{Token}
-use Rattle.cl_base.specs.declared.token.PpToken.{PpToken}
-use Rattle.cl_base.specs.declared.token.Diag.{Diag}
 use Rattle.cl_base.specs.declared.token.Lexed.{Lexed}
 use Rattle.cl_base.specs.declared.token.PpDone.{PpDone}
 use Rattle.cl_lex.proofs.Unique.{one_lexed}
 use Rattle.cl_cond.specs.declared.eval.IfValue.{IfValue}
 use Rattle.cl_cond.specs.declared.mark.Mark.{Mark}
-use Rattle.cl_cond.specs.declared.mark.Groups.{Groups}
 use Rattle.cl_cond.specs.Sections.{GroupsOf}
 use Rattle.cl_cond.specs.Words.{words_from}
 use Rattle.cl_cond.proofs.Deciding.{one_value}

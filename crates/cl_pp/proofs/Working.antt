@@ -1,5 +1,5 @@
 -- A condition that was worked has its one value.
-use Rattle.std.proofs.Common.{◌≡◌, List, subst, sym, ap, ◌∙◌}
+use Rattle.std.proofs.Common.{◌≡◌, List, subst, ap, ◌∙◌}
 use Rattle.cl_base.specs.declared.token.Token.{Token}
 use Rattle.cl_base.specs.declared.token.PpToken.{PpToken}
 use Rattle.cl_cond.specs.declared.eval.IfValue.{IfValue}

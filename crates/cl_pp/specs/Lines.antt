@@ -1,5 +1,5 @@
 -- What a line of the file gives: its tokens, and its faults (N1570 6.10).
-use Rattle.std.specs.Prelude.{◌≡◌, ℕ, zero, suc, ◌+◌, ◌-◌, ◌==◌, ◌&&◌, ◌||◌, not, List, [], ◌∷◌, ◌++◌, Bool, true, false, if◌then◌else◌, Option, Some, None, map, length, slice_get, slice_range, codes}
+use Rattle.std.specs.Prelude.{ℕ, ◌-◌, ◌==◌, ◌&&◌, ◌||◌, not, List, [], ◌∷◌, ◌++◌, Bool, true, false, if◌then◌else◌, Option, Some, None, map, length, slice_get, slice_range, codes}
 use Rattle.cl_base.specs.declared.token.Kind.{Kind}
 use Rattle.cl_base.specs.declared.token.Kind.TheVariants as kind
 use Rattle.cl_base.specs.declared.token.Span.{Span}
@@ -14,7 +14,7 @@ use Rattle.cl_cond.specs.declared.mark.Condition.{Condition}
 use Rattle.cl_cond.specs.declared.mark.Condition.TheVariants.{If, IfDef, IfNDef, Elif, Else}
 use Rattle.cl_cond.specs.declared.mark.Mark.{Mark}
 use Rattle.cl_cond.specs.declared.mark.Part.{Part}
-use Rattle.cl_cond.specs.declared.mark.Part.TheVariants.{Line, Branch, End}
+use Rattle.cl_cond.specs.declared.mark.Part.TheVariants.{Branch}
 use Rattle.cl_cond.specs.Lines.{is_hash}
 use Rattle.cl_pp.specs.Defined.{decided, is_ident, is_word, span_at, spread}
 

@@ -1,5 +1,5 @@
 -- How the code follows the sections that are open: their answers, the innermost first.
-use Rattle.std.specs.Prelude.{ℕ, Bool, true, false, not, ◌&&◌, if◌then◌else◌, List, [], ◌∷◌}
+use Rattle.std.specs.Prelude.{Bool, true, false, not, ◌&&◌, List, [], ◌∷◌}
 use Rattle.cl_cond.specs.declared.mark.Part.{Part}
 use Rattle.cl_cond.specs.declared.mark.Part.TheVariants.{Line, Branch, End}
 use Rattle.cl_cond.specs.Sections.{opens}

@@ -1,5 +1,5 @@
 -- The answer that was found is the query's.
-use Rattle.std.proofs.Common.{◌≡◌, ℕ, List, subst, ap, sym, ◌∙◌, length}
+use Rattle.std.proofs.Common.{◌≡◌, ℕ, List, subst, ap, ◌∙◌}
 use Rattle.cl_base.specs.declared.answer.Symbol.{Symbol}
 use Rattle.cl_base.specs.declared.answer.Answer.TheVariants.{Symbols as Listed}
 use Rattle.cl_base.specs.declared.token.PpDone.{PpDone}

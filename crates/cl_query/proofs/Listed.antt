@@ -1,5 +1,5 @@
 -- The symbols of the items so far, and those of the items that are left.
-use Rattle.std.proofs.Common.{◌≡◌, ℕ, ◌<◌, ◌≤◌, ◌+◌, suc, List, [], ◌∷◌, ◌++◌, sym, ap, ◌∙◌, length, drop, get_or, drop-cons, add-one, append_assoc}
+use Rattle.std.proofs.Common.{◌≡◌, ℕ, ◌<◌, ◌+◌, suc, List, [], ◌∷◌, ◌++◌, sym, ap, ◌∙◌, length, drop, get_or, drop-cons, add-one, append_assoc}
 use Rattle.cl_base.specs.declared.answer.Symbol.{Symbol}
 use Rattle.cl_base.specs.declared.token.PpToken.{PpToken}
 use Rattle.cl_parse.specs.declared.item.Item.{Item}

@@ -1,7 +1,6 @@
-use Rattle.std.proofs.Common.{refl, sym, ap}
+use Rattle.std.proofs.Common.{refl}
 use Rattle.std.specs.Prelude.{reverse}
 use Rattle.cl_pp.specs.Preprocessing.{holds}
-use Rattle.cl_pp.specs.Lines.{line_of}
 use Rattle.cl_pp.specs.Stacks.{top_of}
 use Rattle.cl_pp.proofs.Going.{before, faults_end, faults_on, follows_on, line_lies, tokens_end, tokens_on}
 use Rattle.cl_pp.proofs.Standing.{stand_start, top_free}

@@ -15,7 +15,7 @@ loop-item-preserved c = elim c.match-item.branch [
   | in-Proper+in_ok-symbol+in_ok-push w ↦ record {
     stands = rw w.cursor-is w.in_ok-symbol.ensures.position;
     listed = rw (w.symbols-is, w.in_ok-push.ensures.ok)
-      (listed_proper _ _ _ _ _ _ _ _ _ c.loop-item.invariant.listed c.loop-item-test.true w.in-Proper.is w.in_ok-symbol.ensures.symbol);
+        (listed_proper _ _ _ _ _ _ _ _ _ c.loop-item.invariant.listed c.loop-item-test.true w.in-Proper.is w.in_ok-symbol.ensures.symbol);
   }
   | in_default w ↦ record {
     stands = rw w.cursor-is c.loop-item.invariant.stands;
