@@ -106,6 +106,7 @@ fn reduced(stack: &mut List<Frame>, operand: Outcome, least: u8) -> Outcome
 }
 
 impl Machine {
+    /// The state before the first token. It takes no memory.
     pub fn new(alloc: Global) -> Machine
         ensures stack { result.stack ≡ [] }
         ensures focus { result.focus ≡ None }

@@ -18,6 +18,7 @@ pub enum Pair {
 }
 
 impl Number {
+    /// Whether its type is `uintmax_t`.
     pub fn is_unsigned(self) -> bool
         ensures { result ≡ is_unsigned self }
     {

@@ -22,11 +22,6 @@ module _ (cs : List ℕ) where
   goes_on_number i =
       is_name_byte (slice_index cs i) || slice_index cs i == 46 || (is_sign (slice_index cs i) && is_exponent (slice_index cs (i - 1)))
 
-  -- a digit, or a dot and a digit
-  abbrev pub begins_number : ℕ → Bool
-  begins_number from =
-      is_digit (slice_index cs from) || (slice_index cs from == 46 && stands cs (from + 1) (slice_index cs (from + 1)) && is_digit (slice_index cs (from + 1)))
-
   -- a preprocessing number (6.4.8)
   abbrev pub IsNumber : ℕ → ℕ → Type 0
   IsNumber from to =
