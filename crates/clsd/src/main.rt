@@ -2,6 +2,8 @@
 #![tactic(auto)]
 
 mod command;
+#[cfg(test)]
+mod copy_tests;
 mod outcome;
 #[cfg(test)]
 mod scripts;
