@@ -11,10 +11,6 @@ mod punctuator;
 mod quoted;
 mod scan;
 mod source;
-#[cfg(test)]
-mod source_tests;
-#[cfg(test)]
-mod tests;
 mod tokens;
 
 pub use laws::one_lexing;
