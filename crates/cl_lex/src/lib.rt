@@ -10,6 +10,7 @@ mod pieces;
 mod punctuator;
 mod quoted;
 mod scan;
+mod single;
 mod source;
 #[cfg(test)]
 mod source_tests;
@@ -18,4 +19,5 @@ mod tests;
 mod tokens;
 
 pub use laws::one_lexing;
+pub use single::one_token;
 pub use tokens::lex;
