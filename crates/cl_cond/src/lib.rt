@@ -9,11 +9,7 @@ mod machine;
 mod mark;
 mod nesting;
 mod outcome;
-#[cfg(test)]
-mod tests;
 mod trouble;
-#[cfg(test)]
-mod value_tests;
 mod word;
 
 pub use eval::{IfValue, eval_if};
