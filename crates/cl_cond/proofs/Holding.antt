@@ -6,7 +6,7 @@ use Rattle.std.proofs.lemmas.Bool.Decides.{nat_tests}
 use Rattle.cl_cond.specs.declared.machine.Frame.{Frame}
 use Rattle.cl_cond.specs.declared.machine.Frame.TheVariants as frame
 use Rattle.cl_const.specs.declared.number.Number.TheVariants.{Signed}
-use Rattle.cl_const.specs.declared.characters.Constant.TheVariants.{Known, Unknown}
+use Rattle.cl_const.specs.declared.characters.Constant.TheVariants.{Known}
 use Rattle.cl_const.specs.declared.operators.Operator.{Operator}
 use Rattle.cl_const.specs.declared.operators.Operator.TheVariants as op
 use Rattle.cl_cond.specs.declared.outcome.Outcome.{Outcome}

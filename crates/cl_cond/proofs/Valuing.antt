@@ -1,15 +1,12 @@
 -- What the code makes of a tree has its type and its value.
-use Rattle.std.proofs.Common.{◌≡◌, ℕ, Bool, true, false, not, ◌||◌, if◌then◌else◌, Option, Some, None, refl, sym, ap, ◌∙◌}
-use Rattle.cl_const.specs.declared.characters.Constant.{Constant}
+use Rattle.std.proofs.Common.{◌≡◌, ℕ, Bool, true, false, ◌||◌, Option, Some, None, refl, ap, ◌∙◌}
 use Rattle.cl_const.specs.declared.characters.Constant.TheVariants.{Known, Unknown}
 use Rattle.cl_const.specs.declared.number.Number.{Number}
-use Rattle.cl_const.specs.declared.number.Number.TheVariants.{Signed, Unsigned}
 use Rattle.cl_const.specs.declared.operators.Operator.{Operator}
 use Rattle.cl_const.specs.declared.operators.Operator.TheVariants as op
 use Rattle.cl_const.specs.Numbers.{converted, is_true, is_unsigned, truth}
 use Rattle.cl_const.specs.Operators.{IsOfType, apply, apply_prefix, infix_unsigned, prefix_unsigned}
 use Rattle.cl_const.proofs.Types.{infix_type, prefix_type}
-use Rattle.cl_cond.specs.declared.eval.IfValue.{IfValue}
 use Rattle.cl_cond.specs.declared.outcome.Outcome.{Outcome}
 use Rattle.cl_cond.specs.declared.outcome.Outcome.TheVariants.{Value, Fails}
 use Rattle.cl_cond.specs.declared.word.Class.{Class}

@@ -1,7 +1,7 @@
 -- The type of a condition and its value (N1570 6.5, 6.6, 6.10.1p4), each by its tree. All types are `intmax_t` and
 -- `uintmax_t`, so a type is whether it is unsigned. Operands are worked from left to right and before their operator, and
 -- what is not worked does not fail.
-use Rattle.std.specs.Prelude.{ℕ, Bool, true, false, not, ◌||◌, if◌then◌else◌, pos, Option, Some, None}
+use Rattle.std.specs.Prelude.{ℕ, Bool, true, false, ◌||◌, if◌then◌else◌, pos, Option, Some, None}
 use Rattle.cl_const.specs.declared.characters.Constant.{Constant}
 use Rattle.cl_const.specs.declared.characters.Constant.TheVariants.{Known, Unknown}
 use Rattle.cl_const.specs.declared.number.Number.{Number}

@@ -3,7 +3,9 @@
 ghost use Rattle.std.specs.Prelude.{◌≡◌, ◌+◌, ◌<◌, ◌≤◌, length, true};
 ghost use Rattle.cl_const.specs.Characters.{alone, are_chars, char_len, character, constant_of, escape_len, is_quoted, stands};
 
-use crate::char_type::{CharType, char_type_of, fits, front_of, in_type, is_single, is_unsigned_char, number_of};
+use crate::char_type::{
+    CharType, char_type_of, fits, front_of, in_type, is_single, is_unsigned_char, number_of,
+};
 use crate::escape::{Code, code_of};
 use crate::integers::{Base, digit_count};
 use crate::number::Number;

@@ -82,7 +82,13 @@ fn named(code: Option<u64>) -> Option<Code>
     ensures { result ≡ named code }
 {
     match code {
-        Some(code) => { if may_be_named(code) { Some(Code::Character(code)) } else { None } }
+        Some(code) => {
+            if may_be_named(code) {
+                Some(Code::Character(code))
+            } else {
+                None
+            }
+        }
         None => None,
     }
 }
@@ -91,7 +97,10 @@ fn named(code: Option<u64>) -> Option<Code>
 fn may_be_named(code: u64) -> bool
     ensures { result ≡ may_be_named code }
 {
-    code == 36 || code == 64 || code == 96 || (160 <= code && code <= 0x10_ffff && !(0xd800 <= code && code <= 0xdfff))
+    code == 36
+        || code == 64
+        || code == 96
+        || (160 <= code && code <= 0x10_ffff && !(0xd800 <= code && code <= 0xdfff))
 }
 
 fn simple(first: u8, more: &[u8]) -> Option<Code>

@@ -15,4 +15,6 @@ pub use characters::{Constant, character};
 pub use integers::integer;
 pub use laws::{characters_by_utf8, integers_by_grammar, results_have_types};
 pub use number::Number;
-pub use operators::{Operator, apply, apply_prefix, infix_level, infix_unsigned, is_prefix, prefix_unsigned};
+pub use operators::{
+    Operator, apply, apply_prefix, infix_level, infix_unsigned, is_prefix, prefix_unsigned,
+};

@@ -5,7 +5,6 @@ use Rattle.cl_cond.specs.declared.machine.Frame.TheVariants as frame
 use Rattle.cl_cond.specs.declared.machine.Machine.{Machine}
 use Rattle.cl_const.specs.declared.operators.Operator.{Operator}
 use Rattle.cl_cond.specs.declared.outcome.Outcome.{Outcome}
-use Rattle.cl_cond.specs.declared.outcome.Outcome.TheVariants.{Value}
 use Rattle.cl_cond.specs.declared.word.Class.{Class}
 use Rattle.cl_cond.specs.declared.word.Class.TheVariants as class
 use Rattle.cl_cond.specs.declared.word.Word.{Word}

@@ -3,7 +3,7 @@ use Rattle.std.specs.Prelude.{ℕ, Bool, true, false, not, ◌||◌, if◌then�
 use Rattle.cl_const.specs.declared.characters.Constant.{Constant}
 use Rattle.cl_const.specs.declared.characters.Constant.TheVariants.{Known, Unknown}
 use Rattle.cl_const.specs.declared.number.Number.{Number}
-use Rattle.cl_const.specs.declared.number.Number.TheVariants.{Signed, Unsigned}
+use Rattle.cl_const.specs.declared.number.Number.TheVariants.{Signed}
 use Rattle.cl_const.specs.declared.operators.Operator.{Operator}
 use Rattle.cl_const.specs.declared.operators.Operator.TheVariants as op
 use Rattle.cl_const.specs.Numbers.{as_unsigned, converted, is_true, is_unsigned, truth}
