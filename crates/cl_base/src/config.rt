@@ -47,8 +47,7 @@ impl Model for Config {
 impl Config {
     /// A config of these folders and these macros.
     pub fn new(alloc: Global, includes: List<Path>, defines: List<Define>) -> Mem<Config>
-        ensures includes { IfOk result (λ config. config.includes ≡ includes) }
-        ensures defines { IfOk result (λ config. config.defines ≡ defines) }
+        ensures { IfOk result (λ config. config ≡ record { includes = includes; defines = defines }) }
     {
         let settings = Arc::new(alloc, Settings { includes, defines })?;
         Ok(Config { settings })

@@ -9,8 +9,9 @@ use crate::core_state::State;
 use crate::event::Effect;
 use crate::note::{note, settle};
 use crate::waiting::Waiting;
-use cl_base::{Duplicate, List, Mem, Memory, Path};
-use cl_query::{Job, Query};
+use cl_base::{Config, Duplicate, List, Mem, Memory, Path, Query};
+use cl_headers::HeaderMap;
+use cl_query::Job;
 use cl_rpc::{Call, Id};
 use std::alloc::Global;
 
@@ -49,6 +50,8 @@ fn waiting_for(alloc: Global, core: &State, id: &Id, path: &Path) -> Mem<Option<
     let id = id.duplicate(alloc)?;
     let path = path.duplicate(alloc)?;
     let text = doc.text.duplicate(alloc)?;
+    let config = Config::new(alloc, List::new(alloc), List::new(alloc))?;
+    let headers = HeaderMap::new(alloc)?;
     let job = Job {
         number: core.jobs,
         message: core.messages,
@@ -56,6 +59,8 @@ fn waiting_for(alloc: Global, core: &State, id: &Id, path: &Path) -> Mem<Option<
         version: doc.version,
         path,
         text,
+        config,
+        headers,
         kind: Query::Symbols,
     };
     Ok(Some(Waiting { id, job }))

@@ -51,6 +51,12 @@ unfolding AnswerOf
 answer_of_symbols config headers path text done items symbols preprocessed parses listed =
     ∣ record { done = done; items = items; preprocessed = preprocessed; parses = parses; listed = listed } ∣₁
 
+-- neither the settings nor the headers matter, since no directive is followed into another file
+pub answer_of_any : (kind : Query) (config other : Settings) (headers others : Headers) (path text : List ℕ) (answer : Answer)
+    → AnswerOf kind config headers path text answer → AnswerOf kind other others path text answer
+unfolding AnswerOf
+answer_of_any Symbols config other headers others path text (Listed symbols) a = a
+
 -- where a text has one list of preprocessed tokens, and they have one list of items, it has one list of symbols
 module _ (one_done : (text : List ℕ) (x y : PpDone) → Preprocesses text x → Preprocesses text y → x ≡ y)
     (one_parse : (tokens : List PpToken) (xs ys : List Item) → ItemsOf tokens xs → ItemsOf tokens ys → xs ≡ ys) where
