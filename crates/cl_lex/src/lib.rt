@@ -12,10 +12,6 @@ mod quoted;
 mod scan;
 mod single;
 mod source;
-#[cfg(test)]
-mod source_tests;
-#[cfg(test)]
-mod tests;
 mod tokens;
 
 pub use laws::one_lexing;
