@@ -10,7 +10,7 @@ use crate::bytes::is_quote;
 use crate::item::{Item, ItemKind, Line};
 use crate::next::next_item;
 use crate::source::Source;
-use cl_base::{Fault, Kind, Lexed, List, Mem, Memory, Name, Token, char_len};
+use cl_base::{Fault, Kind, Lexed, List, Mem, Memory, Token, char_len};
 use std::alloc::Global;
 
 /// The most bytes that a text to be cut may have: 2^28.
@@ -148,7 +148,7 @@ fn token(alloc: Global, source: &Source<'_>, kind: Kind, item: Item, before: Bef
     requires within { item.to ≤ length (characters source.now) }
     ensures { IfOk result (λ token. token ≡ token_of (characters source.now) kind item before.space before.first) }
 {
-    let text = Name::new(alloc, &source.chars()[item.from..item.to])?;
+    let text = source.name(alloc, item.from, item.to)?;
     Ok(Token {
         kind,
         text,
