@@ -1,5 +1,5 @@
 -- The characters of a text, as they are gathered one after the other.
-use Rattle.std.proofs.Common.{◌≡◌, ◌∙◌, ℕ, ◌<◌, ◌≤◌, ◌+◌, ◌^◌, List, [], ◌∷◌, ◌++◌, length, get_or, sym, ap, arith, append_assoc, append-nil, true, false}
+use Rattle.std.proofs.Common.{◌≡◌, ◌∙◌, ℕ, ◌<◌, ◌≤◌, ◌+◌, List, [], ◌∷◌, ◌++◌, length, get_or, sym, ap, arith, append_assoc, append-nil, true, false}
 use Rattle.cl_lex.specs.declared.source.Joined.{Joined}
 use Rattle.cl_lex.specs.Source.{Character, value_at, width_at, is_splice, splice_width, characters, values}
 use Rattle.cl_lex.specs.Held.{IsJoined, starts}

@@ -1,6 +1,4 @@
-use Rattle.std.proofs.Common.{◌≡◌, arith, ap, length}
-use Rattle.cl_lex.specs.Source.{characters}
-use Rattle.cl_lex.specs.Lexing.{begins}
+use Rattle.std.proofs.Common.{arith, ap, length}
 use Rattle.cl_lex.proofs.Characters.{count}
 use Rattle.cl_lex.proofs.HeldFacts.{begins_plain, begins_joined, begins_within}
 use Rattle.cl_lex.proofs.source.Source.begins.Goals as goal
