@@ -30,7 +30,8 @@ use Rattle.cl_core.specs.declared.waiting.Waiting.{Waiting}
 use Rattle.cl_core.specs.Waiting.{same_id}
 use Rattle.cl_core.specs.Refusals.{out_of_memory}
 use Rattle.cl_core.specs.History.{said, refusal}
-use Rattle.cl_core.specs.Written.{before, id_of, IsOut, Tells, Writes, no_settings}
+use Rattle.cl_core.specs.Written.{before, id_of, IsOut, Tells, Writes}
+use Rattle.cl_core.specs.Settings.{no_settings}
 use Rattle.cl_core.specs.Deciding.{core_refusal, entry_of, reply_by, code_of, ended, ended_waiting, how_ended, replies_to_request, replies_of, started_by}
 use Rattle.cl_core.specs.Steps.{Takes, Replies, Completes, Stops, start_jobs, finish, finish_if, is_nil, pending_after, ending_after, left_after, first_ending, status_of}
 use Rattle.cl_core.specs.Standing.{past_of, Asks, StandsFor, frames_of}

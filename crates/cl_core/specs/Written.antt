@@ -2,7 +2,7 @@
 use Rattle.std.specs.Prelude.{◌≡◌, ℕ, ℤ, nat_eq, List, [], ◌∷◌, ◌++◌, if◌then◌else◌, Option, Some, None}
 use Rattle.cl_base.specs.declared.answer.Answer.{Answer}
 use Rattle.cl_base.specs.declared.query.Query.TheVariants.{Symbols}
-use Rattle.cl_base.specs.declared.config.Settings.{Settings}
+use Rattle.cl_core.specs.Settings.{no_settings}
 use Rattle.cl_query.specs.AnswerOf.{AnswerOf}
 use Rattle.cl_rpc.specs.declared.id.Id.{Id}
 use Rattle.cl_rpc.specs.declared.call.Call.TheVariants as call
@@ -32,10 +32,6 @@ abbrev pub id_of : Parsed → Option Id
 id_of (parsed.Request i c) = Some i
 id_of (parsed.Refused i code) = i
 id_of _ = None
-
--- no folder is given, and no macro
-abbrev pub no_settings : Settings
-no_settings = record { includes = []; defines = [] }
 
 -- what answers a request that was received here: a query is answered over its document's text
 abbrev pub IsAnswer : List Parsed → List Entry → Parsed → Out → Type 0
