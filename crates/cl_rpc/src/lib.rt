@@ -14,10 +14,11 @@ mod message_params;
 mod message_tests;
 mod out;
 mod reply;
+mod reply_body;
+mod reply_pieces;
 mod reply_symbols;
 #[cfg(test)]
 mod reply_tests;
-mod reply_value;
 
 pub use call::{Call, Parsed};
 pub use id::Id;
