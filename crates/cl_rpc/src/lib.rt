@@ -10,15 +10,11 @@ mod message_call;
 mod message_changes;
 mod message_method;
 mod message_params;
-#[cfg(test)]
-mod message_tests;
 mod out;
 mod reply;
 mod reply_body;
 mod reply_pieces;
 mod reply_symbols;
-#[cfg(test)]
-mod reply_tests;
 
 pub use call::{Call, Parsed};
 pub use id::Id;
