@@ -114,8 +114,10 @@ pub list_text : (o p q b : List ℕ) (later : Bool) (ss : List Symbol) (i : ℕ)
     → Adds o p (codes "[") → q ++ left_text later i ss ≡ p ++ left_text false 0 ss → Adds q b (codes "]") → Adds o b (compact_text (symbols_data ss))
 list_text o p q b later ss i h first w last =
     let none : drop i ss ≡ [] = drop_all i ss h in
-    record { is = last.is ∙ subst (λ (v : List Symbol). q ++ items_text later (items_of (map symbol_data v)) ≡ p ++ left_text false 0 ss) none w
-    ∙ ap (λ (v : List ℕ). v ++ left_text false 0 ss) first.is ∙ append_assoc o (codes "[") (left_text false 0 ss) }
+    record {
+      is = last.is ∙ subst (λ (v : List Symbol). q ++ items_text later (items_of (map symbol_data v)) ≡ p ++ left_text false 0 ss) none w
+          ∙ ap (λ (v : List ℕ). v ++ left_text false 0 ss) first.is ∙ append_assoc o (codes "[") (left_text false 0 ss);
+    }
 
 pub frame_is : (r : Reply) (start body frame text : List ℕ) → start ≡ [] → Adds start body (compact_text (reply_data r)) → frame ≡ framed body → text ≡ frame → text ≡ reply_frame r
 unfolding reply_frame

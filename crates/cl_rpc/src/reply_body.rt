@@ -53,7 +53,10 @@ fn push_start(alloc: Global, out: &mut String, id: &Option<Id>) -> Mem<()>
 fn push_capabilities(out: &mut String) -> Mem<()>
     ensures { OnOk result (Adds (string_bytes out.old) (string_bytes out.new) (compact_text capabilities_data)) }
 {
-    push(out, "{\"capabilities\":{\"documentSymbolProvider\":true,\"textDocumentSync\":")?;
+    push(
+        out,
+        "{\"capabilities\":{\"documentSymbolProvider\":true,\"textDocumentSync\":",
+    )?;
     push_count(out, 1)?;
     push(out, "},\"serverInfo\":{\"name\":\"clsd\"}}")?;
     Ok(())
