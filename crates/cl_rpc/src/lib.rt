@@ -2,6 +2,7 @@
 #![tactic(auto)]
 
 mod call;
+mod class;
 mod id;
 mod json;
 mod lossy;
@@ -10,6 +11,7 @@ mod message_call;
 mod message_changes;
 mod message_method;
 mod message_params;
+mod message_watched;
 mod out;
 mod reply;
 mod reply_body;
@@ -17,6 +19,7 @@ mod reply_pieces;
 mod reply_symbols;
 
 pub use call::{Call, Parsed};
+pub use class::Class;
 pub use id::Id;
 pub use message::message_of;
 pub use out::{How, Out, Reply};
