@@ -5,6 +5,8 @@ use Rattle.std.proofs.lemmas.Bool.Decides.{eqb_tells}
 use Rattle.std.proofs.lemmas.List.{take-append-drop}
 use Rattle.cl_frames.specs.Frames.{First, whole, cut, wrong, after, length_from, body_from, first, is_digit, are_digits, spelled, HasForm}
 use Rattle.cl_frames.proofs.Stable.{not_cut, not_wrong}
+use Rattle.cl_frames.proofs.FrameLemmas.{digits_end, body_whole}
+use Rattle.cl_frames.proofs.Made.{AllDigits, value_after, digits_read, front_read, name_read}
 
 both_true : (a b : Bool) → (a && b) ≡ true → (a ≡ true) × (b ≡ true)
 both_true true b e = (refl, e)
@@ -140,3 +142,32 @@ whole_form bytes body n e =
       form = b.joined ∙ ap (λ (w : List ℕ). codes "Content-Length: " ++ w) r.joined;
       count = omega (arith, r.count);
     }
+
+-- ---- bytes of this form begin with a whole frame
+
+all_digits : (ds : List ℕ) → are_digits ds ≡ true → AllDigits ds
+all_digits [] e = tt
+all_digits (d ∷ ds) e =
+    let digit = both_true (is_digit d) (are_digits ds) e in
+    let within = both_true (nat_le 48 d) (nat_le d 57) digit.0 in
+    ((leb-true 48 d within.0, leb-true d 57 within.1), all_digits ds digit.1)
+
+same_value : (ds : List ℕ) (n : ℕ) → value_after n ds ≡ spelled n ds
+same_value [] n = refl
+same_value (d ∷ ds) n = same_value ds (n * 10 + (d - 48))
+
+pub form_whole : (bytes body : List ℕ) (n : ℕ) → HasForm bytes body n → first bytes ≡ whole body n
+form_whole bytes body n f =
+    let ds = f.digits in
+    let size = length body in
+    let ends = codes "\r\n\r\n" in
+    let tail = body ++ f.rest in
+    let value : value_after 0 ds ≡ size = same_value ds 0 ∙ f.spell in
+    let fits : value_after 0 ds ≤ 67108864 = omega (arith, f.small) in
+    let few : 0 + length ds ≤ 8 = omega (arith, f.few) in
+    let some : length ds ≢ 0 = λ e. omega (arith, f.some) in
+    let count : 0 + length ds ≡ length ds = omega arith in
+    ap first f.form ∙ name_read (ds ++ (ends ++ tail)) ∙ digits_read ds (ends ++ tail) 0 0 (all_digits ds f.are) few fits
+    ∙ ap (λ (k : ℕ). length_from k (value_after 0 ds) (ends ++ tail)) count ∙ ap (λ (v : ℕ). length_from (length ds) v (ends ++ tail)) value
+    ∙ digits_end (length ds) size 13 (10 ∷ 13 ∷ 10 ∷ tail) refl some ∙ front_read ends (body_from (length ds) size) tail
+    ∙ body_whole (length ds) size body f.rest refl ∙ ap (whole body) (sym f.count)

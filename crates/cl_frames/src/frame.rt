@@ -251,8 +251,9 @@ pub fn first_of_frame()
         ≡ whole body (20 + length (decimal (length body)) + length body) }
 {}
 
-/// Where bytes begin with a whole frame, they are the name, one to eight digits that spell the length of its body, two
-/// ends of lines, and the body, in so many bytes.
+/// Bytes begin with a whole frame exactly where they are the name, one to eight digits that spell the length of its
+/// body, two ends of lines, and the body, in so many bytes.
 pub fn first_has_form()
-    ensures { (bytes body : List ℕ) (n : ℕ) → first bytes ≡ whole body n → HasForm bytes body n }
+    ensures told { (bytes body : List ℕ) (n : ℕ) → first bytes ≡ whole body n → HasForm bytes body n }
+    ensures taken { (bytes body : List ℕ) (n : ℕ) → HasForm bytes body n → first bytes ≡ whole body n }
 {}
