@@ -1,12 +1,12 @@
 -- Of a section's branches one is active at most: the first whose condition is fulfilled.
-use Rattle.std.proofs.Common.{◌≡◌, ℕ, suc, Bool, true, false, not, ◌&&◌, if◌then◌else◌, List, [], ◌∷◌, ◌++◌, refl, sym, ap, ◌∙◌}
+use Rattle.std.proofs.Common.{◌≡◌, ℕ, suc, Bool, true, false, not, ◌&&◌, if◌then◌else◌, List, [], ◌∷◌, ◌++◌, refl, ap, ◌∙◌}
 use Rattle.cl_cond.specs.declared.mark.Condition.{Condition}
 use Rattle.cl_cond.specs.declared.mark.Condition.TheVariants.{Elif, Else}
 use Rattle.cl_cond.specs.declared.mark.Part.{Part}
 use Rattle.cl_cond.specs.declared.mark.Part.TheVariants.{Line, Branch, End}
 use Rattle.cl_cond.specs.Grouping.{Symbol, Derives, Group, Following, EndifLine, none, line, section, elif_group, else_group, no_else, endif_line}
 use Rattle.cl_cond.specs.Sections.{opens}
-use Rattle.cl_pp.specs.Activity.{Passed, Question, Active, Free, Outer, by_part, says}
+use Rattle.cl_pp.specs.Activity.{Passed, Question, Active, Free, by_part, says}
 use Rattle.cl_pp.specs.Branching.{Arm, IsSection, behind, laid, line_of_arm, none_held, parts}
 
 -- ---- a group changes no answer

@@ -13,7 +13,7 @@ use Rattle.cl_cond.specs.declared.mark.Groups.{Groups}
 use Rattle.cl_cond.specs.Sections.{GroupsOf}
 use Rattle.cl_pp.specs.Lines.{spread_fault}
 use Rattle.cl_pp.specs.Places.{InOrder, MarksLie}
-use Rattle.cl_pp.specs.Preprocessing.{Preprocesses, AreValues, faults_from, open_comments, tokens_from}
+use Rattle.cl_pp.specs.Preprocessing.{Preprocesses, faults_from, open_comments, tokens_from}
 use Rattle.cl_pp.specs.code.Stacks.{Adds}
 use Rattle.cl_pp.proofs.Order.{marks_lie, tokens_order}
 

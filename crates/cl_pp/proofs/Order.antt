@@ -1,5 +1,5 @@
 -- The tokens of the lines lie one after the other.
-use Rattle.std.proofs.Common.{◌≡◌, ℕ, ◌+◌, ◌-◌, ◌<◌, ◌≤◌, List, [], ◌∷◌, ◌++◌, sym, ap, subst, ◌∙◌, arith, length, drop, take, zero, suc, get_or, Option, Some, None}
+use Rattle.std.proofs.Common.{◌≡◌, ℕ, ◌-◌, ◌<◌, ◌≤◌, List, [], ◌∷◌, ◌++◌, sym, ap, subst, ◌∙◌, arith, length, drop, take, zero, suc, get_or, Option, Some, None}
 use Rattle.std.proofs.Math.Seq.{drop-nil}
 use Rattle.std.specs.Prelude.{Bool, true, false, if◌then◌else◌}
 use Rattle.cl_base.specs.declared.token.Token.{Token}
@@ -15,7 +15,7 @@ use Rattle.cl_cond.specs.declared.trouble.Trouble.TheVariants.{Outside, AfterEls
 use Rattle.cl_cond.specs.Lines.{Lines}
 use Rattle.cl_cond.specs.Sections.{GroupsOf, kept, kept_line, trouble_of}
 use Rattle.cl_pp.specs.Activity.{Passed, Active}
-use Rattle.cl_pp.specs.Lines.{is_directive, line_of, plain_tokens, spread_line}
+use Rattle.cl_pp.specs.Lines.{is_directive, line_of, spread_line}
 use Rattle.cl_pp.specs.Places.{InOrder, MarksLie}
 use Rattle.cl_pp.specs.Preprocessing.{answers, passed, tokens_by, tokens_from}
 

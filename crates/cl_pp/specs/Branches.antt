@@ -3,9 +3,9 @@ use Rattle.std.specs.Prelude.{Bool, true, false, ◌&&◌, if◌then◌else◌, 
 use Rattle.cl_base.specs.declared.token.Token.{Token}
 use Rattle.cl_cond.specs.declared.eval.IfValue.{IfValue}
 use Rattle.cl_cond.specs.declared.mark.Condition.{Condition}
-use Rattle.cl_cond.specs.declared.mark.Condition.TheVariants.{If, IfDef, IfNDef, Elif, Else}
+use Rattle.cl_cond.specs.declared.mark.Condition.TheVariants.{If, Elif}
 use Rattle.cl_cond.specs.declared.mark.Part.{Part}
-use Rattle.cl_cond.specs.declared.mark.Part.TheVariants.{Line, Branch, End}
+use Rattle.cl_cond.specs.declared.mark.Part.TheVariants.{Branch}
 use Rattle.cl_cond.specs.Words.{words_from}
 use Rattle.cl_cond.specs.Conditions.{EvaluatesTo}
 use Rattle.cl_cond.specs.Sections.{opens}

@@ -17,7 +17,12 @@ use cl_cond::{Condition, IfValue, Part, eval_if};
 use std::alloc::Global;
 
 /// What the condition of a line comes to, if it is worked: only an expression is whose branch may be taken.
-pub(crate) fn value(alloc: Global, part: Part, here: Section, line: &[Token]) -> Mem<Option<IfValue>>
+pub(crate) fn value(
+    alloc: Global,
+    part: Part,
+    here: Section,
+    line: &[Token],
+) -> Mem<Option<IfValue>>
     ensures { IfOk result (λ value. IsWorked (works part (tell here)) line.now value) }
 {
     if works(part, here) {
@@ -48,7 +53,11 @@ fn has_expression(condition: Condition) -> bool
 fn may_take(condition: Condition, here: Section) -> bool
     ensures { result ≡ may_take condition (tell here) }
 {
-    if opens(condition) { here.active } else { here.free }
+    if opens(condition) {
+        here.active
+    } else {
+        here.free
+    }
 }
 
 /// What the expression of a line comes to.

@@ -65,7 +65,13 @@ pub(crate) fn line_tokens(
     ensures { OnOk result (tokens.new ≡ tokens.old ++ tokens_by part here.active line.now) }
 {
     match part {
-        Part::Line => { if here.active { text_line(alloc, tokens, line) } else { Ok(()) } }
+        Part::Line => {
+            if here.active {
+                text_line(alloc, tokens, line)
+            } else {
+                Ok(())
+            }
+        }
         Part::End | Part::Branch(_) => Ok(()),
     }
 }

@@ -1,5 +1,4 @@
-use Rattle.std.proofs.Common.{List, length, subst, sym}
-use Rattle.cl_base.specs.declared.token.Token.{Token}
+use Rattle.std.proofs.Common.{length, subst, sym}
 use Rattle.cl_base.specs.declared.token.PpDone.{PpDone}
 use Rattle.cl_lex.specs.Order.{AreInOrder}
 use Rattle.cl_pp.proofs.Found.{found, lie_found, order_found, start_is}
