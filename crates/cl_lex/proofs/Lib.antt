@@ -1,5 +1,7 @@
 mod Characters
 mod Classes
+mod Decided
+mod Exists
 mod HeldFacts
 mod Joining
 mod Lexed
