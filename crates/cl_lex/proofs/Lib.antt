@@ -11,4 +11,6 @@ mod Order
 mod Pass
 mod PlainText
 mod Quotes
+mod Singles
 pub mod Unique
+mod Words
