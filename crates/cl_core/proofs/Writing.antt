@@ -207,10 +207,13 @@ only_kind Symbols = refl
 
 job_out : (messages : List Parsed) (past : List Entry) (w : Waiting) (h : How) (o : Out) → Asks messages past w → IsJobsOut w.job h o
     → IsOut messages (before past w.job.message) (parsed.Request w.id (call.Symbols w.job.path)) h o
-job_out messages past w how.Answered o a is =
-    (w.job.text, is.0, a.over,
-    subst (λ (kind : Query). AnswerOf kind no_settings [] w.job.path w.job.text is.0) (only_kind w.job.kind) (answer_of_any w.job.kind w.job.config no_settings w.job.headers [] w.job.path w.job.text is.0 is.1),
-    is.2)
+job_out messages past w how.Answered o a is = (
+  w.job.text,
+  is.0,
+  a.over,
+  subst (λ (kind : Query). AnswerOf kind no_settings [] w.job.path w.job.text is.0) (only_kind w.job.kind) (answer_of_any w.job.kind w.job.config no_settings w.job.headers [] w.job.path w.job.text is.0 is.1),
+  is.2,
+)
 job_out messages past w how.Memory o a is = is
 job_out messages past w how.Refused o a is = absurd is
 job_out messages past w how.Cancelled o a is = absurd is
