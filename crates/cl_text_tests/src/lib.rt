@@ -9,7 +9,11 @@ mod copies;
 #[cfg(test)]
 mod header_sources;
 #[cfg(test)]
+mod large;
+#[cfg(test)]
 mod lexing;
+#[cfg(test)]
+mod one_tokens;
 #[cfg(test)]
 mod places;
 #[cfg(test)]
