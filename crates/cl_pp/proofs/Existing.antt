@@ -11,7 +11,7 @@ use Rattle.cl_cond.proofs.Total.{some_value}
 use Rattle.cl_pp.specs.Activity.{Passed}
 use Rattle.cl_pp.specs.Branches.{IsWorked, works}
 use Rattle.cl_pp.specs.Defined.{decided}
-use Rattle.cl_pp.specs.Lines.{line_of, rest_of, spread_fault}
+use Rattle.cl_pp.specs.Lines.{line_of, rest_of, spread_fault, told}
 use Rattle.cl_pp.specs.Preprocessing.{AreValues, Preprocesses, answers, faults_from, open_comments, passed, tokens_from}
 
 some_worked : (b : Bool) (line : List Token) → (value : Option IfValue) × IsWorked b line value
@@ -31,7 +31,7 @@ some_preprocessing text lexed lexes =
     let values = some_values lexed.tokens [] groups.0.marks in (
       record {
         tokens = tokens_from lexed.tokens [] groups.0.marks values.0;
-        faults = open_comments lexed.faults ++ (map spread_fault groups.0.faults ++ faults_from lexed.tokens [] groups.0.marks values.0);
+        faults = open_comments lexed.faults ++ (map spread_fault groups.0.faults ++ faults_from lexed.tokens (told lexed.faults) [] groups.0.marks values.0);
       },
       record { lexed = lexed; lexes = lexes; groups = groups.0; grouped = groups.1; values = values.0; evaluated = values.1; tokens = refl; faults = refl },
     )
