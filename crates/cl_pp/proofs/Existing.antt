@@ -1,9 +1,10 @@
--- Every text that has tokens has a preprocessing.
+-- Every text has a preprocessing.
 use Rattle.std.proofs.Common.{ℕ, Bool, true, false, List, [], ◌∷◌, ◌++◌, Option, Some, None, refl, map}
 use Rattle.cl_base.specs.declared.token.Token.{Token}
 use Rattle.cl_base.specs.declared.token.Lexed.{Lexed}
 use Rattle.cl_base.specs.declared.token.PpDone.{PpDone}
 use Rattle.cl_lex.specs.Lexing.{Lexes}
+use Rattle.cl_lex.proofs.Exists.{some_lexed}
 use Rattle.cl_cond.specs.declared.eval.IfValue.{IfValue}
 use Rattle.cl_cond.specs.declared.mark.Mark.{Mark}
 use Rattle.cl_cond.proofs.Existing.{some_grouping}
@@ -25,8 +26,8 @@ some_values tokens past (mark ∷ marks) =
     let more = some_values tokens (passed tokens past mark one.0 ∷ past) marks in
     (one.0 ∷ more.0, (one.1, more.1))
 
-pub some_preprocessing : (text : List ℕ) (lexed : Lexed) → Lexes text lexed → (done : PpDone) × Preprocesses text done
-some_preprocessing text lexed lexes =
+some_from : (text : List ℕ) (lexed : Lexed) → Lexes text lexed → (done : PpDone) × Preprocesses text done
+some_from text lexed lexes =
     let groups = some_grouping lexed.tokens in
     let values = some_values lexed.tokens [] groups.0.marks in (
       record {
@@ -35,3 +36,6 @@ some_preprocessing text lexed lexes =
       },
       record { lexed = lexed; lexes = lexes; groups = groups.0; grouped = groups.1; values = values.0; evaluated = values.1; tokens = refl; faults = refl },
     )
+
+pub some_preprocessing : (text : List ℕ) → (done : PpDone) × Preprocesses text done
+some_preprocessing text = let l = some_lexed text in some_from text l.lexed l.lexes
