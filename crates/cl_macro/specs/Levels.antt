@@ -1,0 +1,78 @@
+-- Tokens in work as the code keeps them.
+use Rattle.std.specs.Prelude.{◌≡◌, ℕ, ◌-◌, List, [], ◌∷◌, ◌++◌, reverse, length, drop, take, Option, Some, None, Bool, ◌≤◌, ◌==◌, ◌||◌, ◌&&◌}
+use Rattle.std.specs.List.{find}
+use Rattle.cl_base.specs.declared.macros.Macro.{Macro}
+use Rattle.cl_macro.specs.declared.turn.Doing.{Doing}
+use Rattle.cl_macro.specs.declared.turn.Doing.TheVariants as doing
+use Rattle.cl_macro.specs.Turns.{Turn, Stays, Invokes, Misfits, Open, turn}
+use Rattle.cl_macro.specs.Words.{same}
+use Rattle.cl_macro.specs.declared.note.Note.{Note}
+use Rattle.cl_macro.specs.declared.walk.Invoked.{Invoked}
+use Rattle.cl_macro.specs.Replacing.{replacements}
+use Rattle.cl_macro.specs.Walks.{Walks}
+use Rattle.cl_macro.specs.declared.level.Level.{Level}
+use Rattle.cl_macro.specs.declared.word.Word.{Word}
+
+abbrev pub work_of : Level → List Word
+work_of level = reverse level.work
+
+abbrev pub ahead : Level → List Word
+ahead level = reverse level.work ++ level.rest.now
+
+-- so many tokens are taken
+pub record Passes (n : ℕ) (old new : Level) : Type 0 where
+  pub work : reverse new.work ≡ drop n (reverse old.work)
+  pub rest : new.rest.now ≡ drop (n - length old.work) old.rest.now
+
+-- the macro of a name
+abbrev pub lookup : List Macro → List ℕ → Option Macro
+lookup macros name = find (λ m. same m.name name) macros
+
+abbrev pub turned : Doing → List Word → Turn
+turned doing.Stays ws = Stays
+turned (doing.Invokes m n) ws = Invokes m.now (take n ws)
+turned (doing.Misfits n) ws = Misfits (take n ws)
+turned doing.Open ws = Open
+
+abbrev pub reach : Doing → ℕ
+reach doing.Stays = 0
+reach (doing.Invokes m n) = n
+reach (doing.Misfits n) = n
+reach doing.Open = 0
+
+abbrev pub is_right : ℕ → ℕ → ℕ → Bool
+is_right args params count = args == params || (params == 0 && count == 0)
+
+-- how many tokens an invocation takes
+abbrev pub Takes : Option (List (List ℕ)) → ℕ → Type 0
+Takes None n = n ≡ 0
+Takes (Some params) n = 2 ≤ n
+
+abbrev pub Fitting : Doing → Type 0
+Fitting (doing.Invokes m n) = Takes m.now.params n
+Fitting _ = Unit {0}
+
+module _ (macros : List ℕ → Option Macro) where
+  -- from one level and list of notes it has gone on to another, where these tokens stand before those that are in work
+  pub record Stood (first : Level) (before : List Note) (head : List Word) (level : Level) (notes : List Note) : Type 0 where
+    pub front : List Word
+    pub more : List Note
+    pub out : level.out ≡ first.out ++ front
+    pub all : notes ≡ before ++ more
+    pub none : replacements more ≡ 0
+    pub kept : first.rest.now ≡ [] → level.rest.now ≡ []
+    pub walks : Walks macros (work_of first) first.rest.now front more (head ++ work_of level) level.rest.now
+
+  pub record Invoking (first : Level) (before : List Note) (level : Level) (notes : List Note) (found : Invoked) : Type 0 where
+    pub stood : Stood first before (found.word ∷ []) level notes
+    pub turns : turn macros found.word (ahead level) ≡ Invokes found.mac.now (take found.count (ahead level))
+    pub within : found.count ≤ length (ahead level)
+    pub fits : Takes found.mac.now.params found.count
+
+  pub record Ended (first : Level) (before : List Note) (level : Level) (notes : List Note) : Type 0 where
+    pub stood : Stood first before [] level notes
+    pub empty : level.work ≡ []
+
+  abbrev pub Walked : Level → List Note → Level → List Note → Option Invoked → Type 0
+  Walked first before level notes None = Ended first before level notes
+  Walked first before level notes (Some found) = Invoking first before level notes found
