@@ -13,11 +13,7 @@ mod nesting;
 mod number;
 mod operators;
 mod outcome;
-#[cfg(test)]
-mod tests;
 mod trouble;
-#[cfg(test)]
-mod value_tests;
 mod word;
 
 pub use eval::{IfValue, eval_if};

@@ -16,8 +16,6 @@ mod replies;
 mod start;
 mod step;
 mod take;
-#[cfg(test)]
-mod tests;
 mod waiting;
 
 pub use core_state::Core;

@@ -10,8 +10,6 @@ mod outside;
 mod sessions;
 mod std_sink;
 mod std_source;
-#[cfg(test)]
-mod tests;
 mod write;
 
 pub use frame::{Frame, Frames, first_can_go_on, first_has_room, first_is_stable, first_of_frame};

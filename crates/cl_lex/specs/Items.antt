@@ -2,6 +2,7 @@
 -- phases 1 and 2.
 use Rattle.std.specs.Prelude.{◌≡◌, ◌⊎◌, ℕ, ◌+◌, ◌-◌, ◌<◌, ◌≤◌, ◌||◌, ◌==◌, List, [], ◌∷◌, length, slice_index, slice_range, nat_eq, codes, Bool, true, false, if◌then◌else◌}
 use Rattle.std.specs.Cmp.Lexicographic.{pointwise}
+use Rattle.cl_base.specs.declared.token.Kind.{Kind}
 use Rattle.cl_base.specs.declared.token.Kind.TheVariants as kind
 use Rattle.cl_base.specs.Characters.{char_len}
 use Rattle.cl_lex.specs.declared.item.Item.{Item}
@@ -81,3 +82,7 @@ module _ (cs : List ℕ) where
   Tiles before at [] = at ≡ length cs
   Tiles before at (it ∷ items) =
       (it.from ≡ at) × (at < it.to) × (it.to ≤ length cs) × IsItem (takes_header before) it.kind at it.to × Tiles (line_after before it) it.to items
+
+-- a spelling is cut into one item, and that is a token of this kind
+abbrev pub IsOneToken : List ℕ → Kind → Type 0
+IsOneToken spelling k = Tiles spelling line.Start 0 (record { kind = item.Token k; from = 0; to = length spelling } ∷ [])

@@ -10,12 +10,10 @@ mod pieces;
 mod punctuator;
 mod quoted;
 mod scan;
+mod single;
 mod source;
-#[cfg(test)]
-mod source_tests;
-#[cfg(test)]
-mod tests;
 mod tokens;
 
 pub use laws::one_lexing;
+pub use single::one_token;
 pub use tokens::lex;

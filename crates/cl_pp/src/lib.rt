@@ -9,8 +9,6 @@ mod line;
 mod look;
 mod section;
 mod stray;
-#[cfg(test)]
-mod tests;
 mod token;
 
 pub use file::preprocess;

@@ -8,8 +8,6 @@ mod laws;
 mod query;
 mod run;
 mod symbols;
-#[cfg(test)]
-mod tests;
 
 pub use done::{Done, JobAnswer};
 pub use job::Job;

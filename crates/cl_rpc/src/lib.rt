@@ -10,13 +10,9 @@ mod message_call;
 mod message_changes;
 mod message_method;
 mod message_params;
-#[cfg(test)]
-mod message_tests;
 mod out;
 mod reply;
 mod reply_symbols;
-#[cfg(test)]
-mod reply_tests;
 mod reply_value;
 
 pub use call::{Call, Parsed};

@@ -2,7 +2,5 @@
 #![tactic(auto)]
 
 mod docs;
-#[cfg(test)]
-mod tests;
 
 pub use docs::{Changed, Closed, Doc, Docs, Opened};

@@ -2,8 +2,6 @@
 #![tactic(auto)]
 
 mod command;
-#[cfg(test)]
-mod copy_tests;
 mod outcome;
 #[cfg(test)]
 mod scripts;

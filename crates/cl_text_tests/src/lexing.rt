@@ -1,5 +1,5 @@
-use crate::tokens::lex;
 use cl_base::{Fault, Kind, Mem, Token};
+use cl_lex::lex;
 use std::alloc::Global;
 use std::test::Fail;
 
@@ -8,7 +8,7 @@ type Row<'a> = (&'a [u8], &'a [u8]);
 
 #[test]
 fn worked_examples(rt: HostRuntime) -> Result<(), Fail> {
-    let rows: [Row<'_>; 22] = [
+    let rows: [Row<'_>; 29] = [
         (b"a??/\nb", b"Iab@0-6f "),
         (b"x+++y", b"Ix@0-1f P++@1-3 P+@3-4 Iy@4-5 "),
         (b"0x1e+5", b"N0x1e+5@0-6f "),
@@ -54,6 +54,13 @@ fn worked_examples(rt: HostRuntime) -> Result<(), Fail> {
         (b".5.e+1..1", b"N.5.e+1..1@0-9f "),
         (b"....5", b"P...@0-3f N.5@3-5 "),
         (b"%:%:%:%", b"P%:%:@0-4f P%:@4-6 P%@6-7 "),
+        (b"??=??(??/", b"P#@0-3f P[@3-6 O\\@6-9 "),
+        (b"??)??'??<", b"P]@0-3f P^@3-6 P{@6-9 "),
+        (b"??!??>??-", b"P|@0-3f P}@3-6 P~@6-9 "),
+        (b"??a", b"P?@0-1f P?@1-2 Ia@2-3 "),
+        (b"a\\\r\nb", b"Iab@0-5f "),
+        (b"\\\\\n", b"O\\@0-1f "),
+        (b"a\\", b"Ia@0-1f O\\@1-2 "),
         (b"", b""),
     ];
     for (text, wanted) in rows {

@@ -1,7 +1,7 @@
 //! Conditions, with values that another preprocessor computed.
 
-use crate::{IfValue, eval_if};
 use cl_base::{Kind, List, Mem, Memory, Name, PpToken, Span};
+use cl_cond::{IfValue, eval_if};
 use std::alloc::Global;
 
 /// Conditions with what they come to: a value, with `u` where it is unsigned, or the place at fault.

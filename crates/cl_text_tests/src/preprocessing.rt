@@ -1,5 +1,5 @@
-use crate::file::preprocess;
 use cl_base::Mem;
+use cl_pp::preprocess;
 use std::alloc::Global;
 use std::test::Fail;
 

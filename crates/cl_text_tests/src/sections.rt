@@ -1,7 +1,7 @@
 //! Worked examples.
 
-use crate::{Condition, Groups, Mark, Part, groups};
 use cl_base::{Kind, List, Mem, Memory, Name, Token};
+use cl_cond::{Condition, Groups, Mark, Part, groups};
 use std::alloc::Global;
 
 /// Each file in words, a line a piece of it, with its marks and its faults.

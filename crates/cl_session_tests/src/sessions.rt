@@ -3,9 +3,8 @@
 //! `ask-text` and `cancel-text` have one that is a text, and `done` has the number of a job, from 0, in the order in
 //! which the jobs were started.
 
-use crate::core_state::Core;
-use crate::event::{Effect, Ending, Event};
 use cl_base::{Answer, Duplicate, List, Mem, Path, Text};
+use cl_core::{Core, Effect, Ending, Event};
 use cl_query::{Job, JobAnswer, run_job};
 use cl_rpc::{Call, Id, Out, Parsed, Reply};
 use std::alloc::Global;

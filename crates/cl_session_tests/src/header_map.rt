@@ -1,5 +1,5 @@
-use crate::map::HeaderMap;
 use cl_base::{Known, Mem, Path, Text};
+use cl_headers::HeaderMap;
 use std::alloc::Global;
 use std::test::Fail;
 

@@ -1,7 +1,5 @@
-use crate::call::{Call, Parsed};
-use crate::id::Id;
-use crate::message::message_of;
 use cl_base::{Mem, Text};
+use cl_rpc::{Call, Id, Parsed, message_of};
 use std::alloc::Global;
 use std::test::Fail;
 

@@ -1,7 +1,5 @@
-use crate::id::Id;
-use crate::out::{How, Out, Reply};
-use crate::reply::reply_text;
 use cl_base::{Answer, Duplicate, List, Mem, Position, Range, Symbol, Text};
+use cl_rpc::{How, Id, Out, Reply, reply_text};
 use std::alloc::Global;
 use std::test::Fail;
 

@@ -1,11 +1,7 @@
-use crate::frame::{Frame, Frames};
-use crate::memory_sink::MemorySink;
-use crate::memory_source::MemorySource;
-use crate::outside::Source;
-use crate::std_sink::StdSink;
-use crate::std_source::StdSource;
-use crate::write::{Written, write_frame};
 use cl_base::{Mem, Text};
+use cl_frames::{
+    Frame, Frames, MemorySink, MemorySource, Source, StdSink, StdSource, Written, write_frame,
+};
 use std::alloc::Global;
 use std::test::Fail;
 

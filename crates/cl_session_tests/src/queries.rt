@@ -1,7 +1,7 @@
 //! Worked examples.
 
-use crate::{Job, JobAnswer, Query, run_job};
 use cl_base::{Answer, Duplicate, Mem, Memory, Path, Symbol, Text};
+use cl_query::{Job, JobAnswer, Query, run_job};
 use std::alloc::Global;
 
 #[test]

@@ -1,5 +1,5 @@
-use crate::docs::{Changed, Closed, Docs, Opened};
 use cl_base::{Mem, Path, Text};
+use cl_store::{Changed, Closed, Docs, Opened};
 use std::alloc::Global;
 use std::test::Fail;
 

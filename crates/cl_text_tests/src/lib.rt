@@ -1,0 +1,18 @@
+//! Tests of the crates that read a text: ground, tokens, conditions, preprocessing. They stand in a crate of their own,
+//! since a crate with tests is proved twice.
+#![tactic(auto)]
+
+#[cfg(test)]
+mod conditions;
+#[cfg(test)]
+mod copies;
+#[cfg(test)]
+mod lexing;
+#[cfg(test)]
+mod places;
+#[cfg(test)]
+mod preprocessing;
+#[cfg(test)]
+mod sections;
+#[cfg(test)]
+mod values;
