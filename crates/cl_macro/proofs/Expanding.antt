@@ -1,11 +1,15 @@
 -- A run, token by token.
 use Rattle.std.proofs.Common.{◌≡◌, ℕ, zero, suc, ◌+◌, ◌-◌, ◌≤◌, ◌<◌, List, [], ◌∷◌, ◌++◌, length, drop, take, map, reverse, Option, Some, None, refl, sym, ap, subst, ◌∙◌, arith, append_assoc, length-drop}
 use Rattle.cl_base.specs.declared.macros.Macro.{Macro}
+use Rattle.cl_macro.specs.Rules.{Rules}
 use Rattle.cl_macro.specs.declared.word.Word.{Word}
 use Rattle.cl_macro.specs.declared.note.Note.{Note}
+use Rattle.cl_macro.specs.declared.note.Told.{Told}
+use Rattle.cl_base.specs.declared.token.Span.{Span}
 use Rattle.cl_macro.specs.Words.{looks}
 use Rattle.cl_macro.specs.Turns.{Turn, Stays, Invokes, Misfits, Open, turn, stay_notes}
-use Rattle.cl_macro.specs.Replacing.{Works, Each, done, stays, invokes, misfits, open_ended, replacements, Expands, end, whole, large, settled}
+use Rattle.std.proofs.lemmas.Grind.{common_steps}
+use Rattle.cl_macro.specs.Replacing.{settled_word, Works, Each, done, stays, invokes, misfits, open_ended, replacements, Expands, end, whole, large, settled, span_of, all_told}
 use Rattle.std.proofs.Common.{Bor}
 use Rattle.cl_macro.specs.declared.level.Level.{Level}
 use Rattle.cl_macro.specs.declared.turn.Doing.{Doing}
@@ -13,8 +17,8 @@ use Rattle.cl_macro.specs.declared.turn.Doing.TheVariants as doing
 use Rattle.cl_macro.specs.Levels.{ahead, turned, Passes}
 use Rattle.cl_macro.proofs.Standing.{looks_zero, stay_zero, replacements_more, taken_length}
 
-module _ (macros : List ℕ → Option Macro) where
-  pub left_short : {work rest out left : List Word} {ns : List Note} → Works macros work rest out left ns → length left ≤ length rest
+module _ (rules : Rules) where
+  pub left_short : {work rest out left : List Word} {ns : List Note} → Works rules work rest out left ns → length left ≤ length rest
   left_short (done rest) = omega arith
   left_short (stays w work rest out left ns t d) = left_short d
   left_short (invokes w work rest m behind full inner out left ns t a d) =
@@ -24,47 +28,22 @@ module _ (macros : List ℕ → Option Macro) where
   left_short (open_ended w work rest t) = omega arith
 
   -- a token that isn't invoked makes no replacement
-  not_large : (w : Word) (rest : List Word) → ((out left : List Word) (ns : List Note) → Works macros (w ∷ []) rest out left ns → 65535 < replacements ns)
-      → (t : Turn) → turn macros w rest ≡ t → (m : Macro) × (behind : List Word) × (turn macros w rest ≡ Invokes m behind)
+  not_large : (w : Word) (rest : List Word) → ((out left : List Word) (ns : List Note) → Works rules (w ∷ []) rest out left ns → 65535 < replacements ns)
+      → (t : Turn) → turn rules.macros w rest ≡ t → (m : Macro) × (behind : List Word) × (turn rules.macros w rest ≡ Invokes m behind)
   not_large w rest k Stays e = let h = k _ _ _ (stays w [] rest [] rest [] e (done rest)) in
       let z = looks_zero w in let a = replacements_more (looks w) [] in absurd (omega arith)
   not_large w rest k (Invokes m behind) e = (m, behind, e)
   not_large w rest k (Misfits behind) e = let h = k _ _ _ (misfits w [] rest behind [] _ [] e (done_drop behind rest)) in
       let z = stay_zero 19 w behind in let a = replacements_more (stay_notes 19 w behind) [] in absurd (omega arith)
     where
-      done_drop : (behind rest : List Word) → Works macros (drop (length behind) []) (drop (length behind - 0) rest) [] (drop (length behind - 0) rest) []
+      done_drop : (behind rest : List Word) → Works rules (drop (length behind) []) (drop (length behind - 0) rest) [] (drop (length behind - 0) rest) []
       done_drop [] rest = done _
       done_drop (b ∷ bs) rest = done _
   not_large w rest k Open e = let h = k _ _ _ (open_ended w [] rest e) in
       let z = stay_zero 20 w rest in absurd (omega arith)
 
-  pub goes_whole : (run rest : List Word) (words : List Word) (notes : List Note) (w : Word) (behind out left words2 : List Word) (ns notes2 : List Note)
-      → ((more : List Word) (ms : List Note) → Expands macros rest more ms → Expands macros run (words ++ more) (notes ++ ms))
-      → rest ≡ w ∷ behind → Works macros (w ∷ []) behind out left ns → replacements ns ≤ 65535
-      → words2 ≡ words ++ settled w ns out → notes2 ≡ notes ++ ns
-      → (more : List Word) (ms : List Note) → Expands macros left more ms → Expands macros run (words2 ++ more) (notes2 ++ ms)
-  goes_whole run rest words notes w behind out left words2 ns notes2 k e d s ew en more ms g =
-      let h = k (settled w ns out ++ more) (ns ++ ms) (subst (λ (r : List Word). Expands macros r (settled w ns out ++ more) (ns ++ ms)) (sym e) (whole w behind out left more ns ms d s g)) in
-      let a : words ++ (settled w ns out ++ more) ≡ words2 ++ more = sym (append_assoc words (settled w ns out) more) ∙ ap (λ xs. xs ++ more) (sym ew) in
-      let b : notes ++ (ns ++ ms) ≡ notes2 ++ ms = sym (append_assoc notes ns ms) ∙ ap (λ xs. xs ++ ms) (sym en) in
-      subst (λ (n : List Note). Expands macros run (words2 ++ more) n) b (subst (λ (ws : List Word). Expands macros run ws (notes ++ (ns ++ ms))) a h)
-
-  pub goes_large : (run rest : List Word) (words : List Word) (notes : List Note) (w : Word) (m : Macro) (behind taken left words2 : List Word) (notes2 : List Note)
-      → ((more : List Word) (ms : List Note) → Expands macros rest more ms → Expands macros run (words ++ more) (notes ++ ms))
-      → rest ≡ w ∷ behind → turn macros w behind ≡ Invokes m taken
-      → ((out left : List Word) (ns : List Note) → Works macros (w ∷ []) behind out left ns → 65535 < replacements ns)
-      → left ≡ drop (length taken) behind → words2 ≡ words ++ w ∷ taken → notes2 ≡ notes ++ stay_notes 17 w taken
-      → (more : List Word) (ms : List Note) → Expands macros left more ms → Expands macros run (words2 ++ more) (notes2 ++ ms)
-  goes_large run rest words notes w m behind taken left words2 notes2 k e t big el ew en more ms g =
-      let ns = stay_notes 17 w taken in
-      let h = k (w ∷ (taken ++ more)) (ns ++ ms) (subst (λ (r : List Word). Expands macros r (w ∷ (taken ++ more)) (ns ++ ms)) (sym e)
-        (large w behind taken m more ms t big (subst (λ (l : List Word). Expands macros l more ms) el g))) in
-      let a : words ++ (w ∷ (taken ++ more)) ≡ words2 ++ more = sym (append_assoc words (w ∷ taken) more) ∙ ap (λ xs. xs ++ more) (sym ew) in
-      let b : notes ++ (ns ++ ms) ≡ notes2 ++ ms = sym (append_assoc notes ns ms) ∙ ap (λ xs. xs ++ ms) (sym en) in
-      subst (λ (n : List Note). Expands macros run (words2 ++ more) n) b (subst (λ (ws : List Word). Expands macros run ws (notes ++ (ns ++ ms))) a h)
-
-  pub never_else : (w : Word) (rest : List Word) → ((out left : List Word) (ns : List Note) → Works macros (w ∷ []) rest out left ns → 65535 < replacements ns)
-      → (d : Doing) (ws : List Word) → turn macros w rest ≡ turned d ws → ((x : Bor Macro) (n : ℕ) → d ≡ doing.Invokes x n → ⊥) → ⊥
+  pub never_else : (w : Word) (rest : List Word) → ((out left : List Word) (ns : List Note) → Works rules (w ∷ []) rest out left ns → 65535 < replacements ns)
+      → (d : Doing) (ws : List Word) → turn rules.macros w rest ≡ turned d ws → ((x : Bor Macro) (n : ℕ) → d ≡ doing.Invokes x n → ⊥) → ⊥
   never_else w rest k doing.Stays ws e n = let p = not_large w rest k Stays e in two_turns _ p.0 p.1 Stays p.2 e refl
     where
       is_invokes : Turn → List Word
@@ -84,20 +63,70 @@ module _ (macros : List ℕ → Option Macro) where
       two : (t : Turn) (m : Macro) (b : List Word) → t ≡ Invokes m b → t ≡ Open → ⊥
       two t m b x y = cc
 
+module _ (rules_at : Span → Rules) where
+  -- what has come of a run so far, where these tokens are left
+  pub record Gone (run : List Word) (words : List Word) (ts : List Told) (rest : List Word) : Type 0 where
+    pub goes : (more : List Word) (later : List Told) → Expands rules_at (length words) rest more later → Expands rules_at 0 run (words ++ more) (ts ++ later)
+
+  pub gone_none : (run : List Word) → Gone run [] [] run
+  gone_none run = record { goes = λ more later g. g }
+
+  join : {A : Type 0} (xs ys more all : List A) → all ≡ xs ++ ys → xs ++ (ys ++ more) ≡ all ++ more
+  join xs ys more all e = sym (append_assoc xs ys more) ∙ ap (λ zs. zs ++ more) (sym e)
+
+  settled_length : (at : Span) (out : List Word) → length (map (settled_word at) out) ≡ length out
+  settled_length at [] = refl
+  settled_length at (w ∷ ws) = ap suc (settled_length at ws)
+
+  append_length : (xs ys : List Word) → length (xs ++ ys) ≡ length xs + length ys
+  append_length xs ys = grind (arith, common_steps)
+
+  pub gone_whole : (run rest words : List Word) (ts : List Told) (w : Word) (behind out left words2 : List Word) (ns : List Note) (ts2 : List Told)
+      → Gone run words ts rest → rest ≡ w ∷ behind → Works (rules_at w.token.at) (w ∷ []) behind out left ns → replacements ns ≤ 65535
+      → words2 ≡ words ++ settled w ns out → ts2 ≡ ts ++ all_told (length words) (span_of w ns) ns
+      → Gone run words2 ts2 left
+  gone_whole run rest words ts w behind out left words2 ns ts2 k e d s ew et = record {
+    goes = λ more later g.
+        let n : length words2 ≡ length words + length out = ap length ew ∙ append_length words (settled w ns out) ∙ ap (λ j. length words + j) (settled_length (span_of w ns) out) in
+        let h = k.goes (settled w ns out ++ more) (all_told (length words) (span_of w ns) ns ++ later)
+            (subst (λ (r : List Word). Expands rules_at (length words) r (settled w ns out ++ more) (all_told (length words) (span_of w ns) ns ++ later)) (sym e)
+              (whole (length words) w behind out left more ns later d s (subst (λ (j : ℕ). Expands rules_at j left more later) n g))) in
+        subst (λ (t : List Told). Expands rules_at 0 run (words2 ++ more) t) (join ts _ later ts2 et)
+        (subst (λ (ws : List Word). Expands rules_at 0 run ws (ts ++ (all_told (length words) (span_of w ns) ns ++ later))) (join words _ more words2 ew) h)
+  }
+
+  pub gone_large : (run rest words : List Word) (ts : List Told) (w : Word) (m : Macro) (behind taken left words2 : List Word) (ts2 : List Told)
+      → Gone run words ts rest → rest ≡ w ∷ behind → turn (rules_at w.token.at).macros w behind ≡ Invokes m taken
+      → ((out left : List Word) (ns : List Note) → Works (rules_at w.token.at) (w ∷ []) behind out left ns → 65535 < replacements ns)
+      → left ≡ drop (length taken) behind → words2 ≡ words ++ w ∷ taken → ts2 ≡ ts ++ all_told (length words) w.token.at (stay_notes 17 w taken)
+      → Gone run words2 ts2 left
+  gone_large run rest words ts w m behind taken left words2 ts2 k e t big el ew et = record {
+    goes = λ more later g.
+        let n : length words2 ≡ length words + length (w ∷ taken) = ap length ew ∙ append_length words (w ∷ taken) in
+        let ns = all_told (length words) w.token.at (stay_notes 17 w taken) in
+        let h = k.goes (w ∷ (taken ++ more)) (ns ++ later)
+            (subst (λ (r : List Word). Expands rules_at (length words) r (w ∷ (taken ++ more)) (ns ++ later)) (sym e)
+              (large (length words) w behind taken m more later t big
+                (subst (λ (l : List Word). Expands rules_at (length words + length (w ∷ taken)) l more later) el (subst (λ (j : ℕ). Expands rules_at j left more later) n g)))) in
+        subst (λ (t : List Told). Expands rules_at 0 run (words2 ++ more) t) (join ts _ later ts2 et)
+        (subst (λ (ws : List Word). Expands rules_at 0 run ws (ts ++ (ns ++ later))) (join words (w ∷ taken) more words2 ew) h)
+  }
+
   -- the tokens of an invocation that is too large
-  pub goes_stay : (run rest : List Word) (words : List Word) (notes : List Note) (first w : Word) (m : Macro) (behind : List Word) (count : ℕ) (level level2 : Level) (words2 : List Word) (notes2 : List Note)
-      → ((more : List Word) (ms : List Note) → Expands macros rest more ms → Expands macros run (words ++ more) (notes ++ ms))
+  pub gone_stay : (run rest words : List Word) (ts : List Told) (first w : Word) (m : Macro) (behind : List Word) (count : ℕ) (level level2 : Level) (words2 : List Word) (notes : List Note) (ts2 : List Told)
+      → Gone run words ts rest
       → rest ≡ first ∷ behind → w ≡ first → level.work ≡ [] → level.rest.now ≡ behind → level.out ≡ []
-      → turn macros first (ahead level) ≡ Invokes m (take count (ahead level)) → count ≤ length (ahead level)
-      → ((out left : List Word) (ns : List Note) → Works macros (first ∷ []) behind out left ns → 65535 < replacements ns)
-      → Passes count level level2 → level2.out ≡ level.out ++ w ∷ take count (ahead level) → words2 ≡ words ++ level2.out → notes2 ≡ notes ++ stay_notes 17 w (take count (ahead level))
-      → (more : List Word) (ms : List Note) → Expands macros level2.rest.now more ms → Expands macros run (words2 ++ more) (notes2 ++ ms)
-  goes_stay run rest words notes first w m behind count level level2 words2 notes2 k e ew lw lr lo t h big p eo es en =
+      → turn (rules_at first.token.at).macros first (ahead level) ≡ Invokes m (take count (ahead level)) → count ≤ length (ahead level)
+      → ((out left : List Word) (ns : List Note) → Works (rules_at first.token.at) (first ∷ []) behind out left ns → 65535 < replacements ns)
+      → Passes count level level2 → level2.out ≡ level.out ++ w ∷ take count (ahead level) → words2 ≡ words ++ level2.out
+      → notes ≡ [] ++ stay_notes 17 w (take count (ahead level)) → ts2 ≡ ts ++ all_told (length words) first.token.at notes
+      → Gone run words2 ts2 level2.rest.now
+  gone_stay run rest words ts first w m behind count level level2 words2 notes ts2 k e ew lw lr lo t h big p eo es en et =
       let a : ahead level ≡ behind = (λ i. reverse (lw i) ++ lr i) in
       let tk : take count (ahead level) ≡ take count behind = ap (take count) a in
-      let lc : length (take count behind) ≡ count = taken_length macros count behind (subst (λ (ws : List Word). count ≤ length ws) a h) in
-      goes_large run rest words notes first m behind (take count behind) level2.rest.now words2 notes2 k e
-      ((ap (turn macros first) (sym a) ∙ t) ∙ ap (λ ws. Invokes m ws) tk) big
+      let lc : length (take count behind) ≡ count = taken_length (rules_at first.token.at) count behind (subst (λ (ws : List Word). count ≤ length ws) a h) in
+      gone_large run rest words ts first m behind (take count behind) level2.rest.now words2 ts2 k e
+      ((ap (turn (rules_at first.token.at).macros first) (sym a) ∙ t) ∙ ap (λ ws. Invokes m ws) tk) big
       (p.rest ∙ (λ i. drop (count - length (lw i)) (lr i)) ∙ ap (λ n. drop n behind) (let z : count - 0 ≡ length (take count behind) = omega arith in z))
       (es ∙ ap (λ ws. words ++ ws) (eo ∙ (λ i. lo i ++ ew i ∷ tk i)))
-      (en ∙ (λ i. notes ++ stay_notes 17 (ew i) (tk i)))
+      (et ∙ ap (λ n. ts ++ all_told (length words) first.token.at n) (en ∙ (λ i. stay_notes 17 (ew i) (tk i))))

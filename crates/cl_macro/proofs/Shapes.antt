@@ -1,18 +1,20 @@
 -- What stands behind a derivation, by what is to be done with the first token.
 use Rattle.std.proofs.Common.{◌≡◌, ℕ, List, [], ◌∷◌, ◌++◌, length, drop, ◌-◌, Option, Some, None, refl, sym, ap, subst, ◌∙◌}
 use Rattle.cl_base.specs.declared.macros.Macro.{Macro}
+use Rattle.cl_macro.specs.Rules.{Rules}
 use Rattle.cl_macro.specs.declared.word.Word.{Word}
 use Rattle.cl_macro.specs.declared.note.Note.{Note}
 use Rattle.cl_macro.specs.Words.{looks}
 use Rattle.cl_macro.specs.Turns.{Turn, Stays, Invokes, Misfits, Open, turn, args_of, set_of, invoking, stay_notes}
-use Rattle.cl_macro.specs.Made.{asked, made, made_notes, raws}
+use Rattle.cl_macro.specs.Made.{made, made_notes}
+use Rattle.cl_macro.specs.Params.{asked, raws}
 use Rattle.cl_macro.specs.Replacing.{Works, Each, done, stays, invokes, misfits, open_ended, none, next}
 
-module _ (macros : List ℕ → Option Macro) where
+module _ (rules : Rules) where
   pub record Staying (w : Word) (work rest out left : List Word) (ns : List Note) : Type 0 where
     pub later : List Word
     pub more : List Note
-    pub works : Works macros work rest later left more
+    pub works : Works rules work rest later left more
     pub words : out ≡ w ∷ later
     pub all : ns ≡ looks w ++ more
 
@@ -20,14 +22,14 @@ module _ (macros : List ℕ → Option Macro) where
     pub full : List (List Word)
     pub inner : List Note
     pub more : List Note
-    pub each : Each macros (asked m (args_of m behind)) full inner
-    pub works : Works macros (made m (raws m (args_of m behind)) full w.token.space (set_of w behind) ++ drop (length behind) work) (drop (length behind - length work) rest) out left more
-    pub all : ns ≡ invoking w behind ++ (inner ++ (made_notes m (raws m (args_of m behind)) full ++ more))
+    pub each : Each rules (asked m (args_of m behind)) full inner
+    pub works : Works rules (made rules m (raws m (args_of m behind)) full w.token.space (set_of w behind) ++ drop (length behind) work) (drop (length behind - length work) rest) out left more
+    pub all : ns ≡ invoking w behind ++ (inner ++ (made_notes rules m (raws m (args_of m behind)) full ++ more))
 
   pub record Misfitting (w : Word) (work rest behind out left : List Word) (ns : List Note) : Type 0 where
     pub later : List Word
     pub more : List Note
-    pub works : Works macros (drop (length behind) work) (drop (length behind - length work) rest) later left more
+    pub works : Works rules (drop (length behind) work) (drop (length behind - length work) rest) later left more
     pub words : out ≡ w ∷ (behind ++ later)
     pub all : ns ≡ stay_notes 19 w behind ++ more
 
@@ -49,12 +51,12 @@ module _ (macros : List ℕ → Option Macro) where
 
   abbrev pub Shape : List Word → List Word → List Word → List Word → List Note → Type 0
   Shape [] rest out left ns = Nothing rest out left ns
-  Shape (w ∷ work) rest out left ns = ShapeBy (turn macros w (work ++ rest)) w work rest out left ns
+  Shape (w ∷ work) rest out left ns = ShapeBy (turn rules.macros w (work ++ rest)) w work rest out left ns
 
   by_turn : (t u : Turn) (w : Word) (work rest out left : List Word) (ns : List Note) → u ≡ t → ShapeBy t w work rest out left ns → ShapeBy u w work rest out left ns
   by_turn t u w work rest out left ns e s = subst (λ (v : Turn). ShapeBy v w work rest out left ns) (sym e) s
 
-  pub shape : {work rest out left : List Word} {ns : List Note} → Works macros work rest out left ns → Shape work rest out left ns
+  pub shape : {work rest out left : List Word} {ns : List Note} → Works rules work rest out left ns → Shape work rest out left ns
   shape (done rest) = record { words = refl; all = refl; notes = refl }
   shape (stays w work rest out left ns e d) = by_turn Stays _ w work rest _ _ _ e (record { later = out; more = ns; works = d; words = refl; all = refl })
   shape (invokes w work rest m behind full inner out left ns e a d) =
@@ -64,7 +66,7 @@ module _ (macros : List ℕ → Option Macro) where
   shape (open_ended w work rest e) = by_turn Open _ w work rest _ _ _ e (record { words = refl; none = refl; all = refl })
 
   -- where it is known what is to be done
-  pub shape_at : (t : Turn) (w : Word) (work rest out left : List Word) (ns : List Note) → turn macros w (work ++ rest) ≡ t → Works macros (w ∷ work) rest out left ns
+  pub shape_at : (t : Turn) (w : Word) (work rest out left : List Word) (ns : List Note) → turn rules.macros w (work ++ rest) ≡ t → Works rules (w ∷ work) rest out left ns
       → ShapeBy t w work rest out left ns
   shape_at t w work rest out left ns e d = subst (λ (v : Turn). ShapeBy v w work rest out left ns) e (shape d)
 
@@ -73,8 +75,8 @@ module _ (macros : List ℕ → Option Macro) where
     pub outs : List (List Word)
     pub first : List Note
     pub more : List Note
-    pub works : Works macros arg [] out [] first
-    pub each : Each macros args outs more
+    pub works : Works rules arg [] out [] first
+    pub each : Each rules args outs more
     pub words : full ≡ out ∷ outs
     pub all : ns ≡ first ++ more
 
@@ -82,6 +84,6 @@ module _ (macros : List ℕ → Option Macro) where
   EachShape [] full ns = (full ≡ []) × (ns ≡ [])
   EachShape (arg ∷ args) full ns = Nexts arg args full ns
 
-  pub each_shape : {args full : List (List Word)} {ns : List Note} → Each macros args full ns → EachShape args full ns
+  pub each_shape : {args full : List (List Word)} {ns : List Note} → Each rules args full ns → EachShape args full ns
   each_shape none = (refl, refl)
   each_shape (next arg out args outs ns ms d e) = record { out = out; outs = outs; first = ns; more = ms; works = d; each = e; words = refl; all = refl }

@@ -2,6 +2,7 @@
 use Rattle.std.specs.Prelude.{◌≡◌, ℕ, ◌-◌, ◌+◌, ◌≤◌, ◌<◌, ◌++◌, List, [], ◌∷◌, reverse, length, drop, take, map, Option, Some, None}
 use Rattle.std.specs.List.{sum_by}
 use Rattle.cl_base.specs.declared.macros.Macro.{Macro}
+use Rattle.cl_macro.specs.Rules.{Rules}
 use Rattle.cl_macro.specs.Turns.{Invokes, turn}
 use Rattle.cl_macro.specs.declared.word.Word.{Word}
 use Rattle.cl_macro.specs.declared.note.Note.{Note}
@@ -9,7 +10,8 @@ use Rattle.cl_macro.specs.declared.level.Level.{Level}
 use Rattle.cl_macro.specs.declared.pending.Pending.{Pending}
 use Rattle.cl_macro.specs.declared.walk.Invoked.{Invoked}
 use Rattle.cl_macro.specs.Turns.{args_of, set_of}
-use Rattle.cl_macro.specs.Made.{asked, made, raws}
+use Rattle.cl_macro.specs.Made.{made}
+use Rattle.cl_macro.specs.Params.{asked, raws}
 use Rattle.cl_macro.specs.Replacing.{replacements}
 use Rattle.cl_macro.specs.Levels.{ahead, Takes}
 use Rattle.cl_macro.specs.Walks.{Frame, Leads, working, between}
@@ -43,16 +45,16 @@ abbrev pub Closed : List Frame → List Word → Type 0
 Closed [] rest = Unit {0}
 Closed (f ∷ fs) rest = (rest ≡ []) × Closed fs f.rest
 
-module _ (macros : List ℕ → Option Macro) where
+module _ (rules : Rules) where
   abbrev pub at_level : List Frame → Level → List Word → List Word → List Note → Type 0
-  at_level fs level = working macros fs (reverse level.work) level.rest.now level.out
+  at_level fs level = working rules fs (reverse level.work) level.rest.now level.out
 
   -- the arguments or the replacement of an invocation begin
   pub record Proceeds (fs : List Frame) (f : Frame) (before : List Note) (next : List Frame) (level : Level) (notes : List Note) : Type 0 where
     pub more : List Note
     pub all : notes ≡ before ++ more
     pub none : replacements more ≡ 0
-    pub leads : Leads (between macros fs f) (at_level next level) more
+    pub leads : Leads (between rules fs f) (at_level next level) more
     pub closed : Closed fs f.rest → Closed next level.rest.now
 
   -- it has gone on to another moment
@@ -68,9 +70,9 @@ module _ (macros : List ℕ → Option Macro) where
     pub more : List Note
     pub all : notes ≡ before ++ more
     pub none : replacements more ≡ 0
-    pub leads : Leads (at_level fs first) (working macros next (found.word ∷ reverse level.work) level.rest.now level.out) more
+    pub leads : Leads (at_level fs first) (working rules next (found.word ∷ reverse level.work) level.rest.now level.out) more
     pub closed : Closed fs first.rest.now → Closed next level.rest.now
-    pub turns : turn macros found.word (ahead level) ≡ Invokes found.mac.now (take found.count (ahead level))
+    pub turns : turn rules.macros found.word (ahead level) ≡ Invokes found.mac.now (take found.count (ahead level))
     pub within : found.count ≤ length (ahead level)
     pub fits : Takes found.mac.now.params found.count
 
@@ -85,7 +87,7 @@ module _ (macros : List ℕ → Option Macro) where
   Sought fs first before next level notes (Some found) = Finds fs first before next level notes found
 
 -- what replaces an invocation stands before what follows it
-pub record Replaced (f : Frame) (level : Level) : Type 0 where
-  pub work : reverse level.work ≡ made f.mac f.args f.done f.space f.set ++ f.work
+pub record Replaced (rules : Rules) (f : Frame) (level : Level) : Type 0 where
+  pub work : reverse level.work ≡ made rules f.mac f.args f.done f.space f.set ++ f.work
   pub rest : level.rest.now ≡ f.rest
   pub out : level.out ≡ f.out

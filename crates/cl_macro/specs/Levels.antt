@@ -1,7 +1,12 @@
 -- Tokens in work as the code keeps them.
-use Rattle.std.specs.Prelude.{◌≡◌, ℕ, ◌-◌, List, [], ◌∷◌, ◌++◌, reverse, length, drop, take, Option, Some, None, Bool, ◌≤◌, ◌==◌, ◌||◌, ◌&&◌}
+use Rattle.std.specs.Prelude.{◌≡◌, ℕ, ◌-◌, ◌+◌, List, [], ◌∷◌, ◌++◌, reverse, length, drop, take, Option, Some, None, Bool, ◌≤◌, ◌==◌, ◌||◌, ◌&&◌}
 use Rattle.std.specs.List.{find}
 use Rattle.cl_base.specs.declared.macros.Macro.{Macro}
+use Rattle.cl_base.specs.declared.token.Kind.{Kind}
+use Rattle.cl_base.specs.declared.token.Span.{Span}
+use Rattle.cl_base.specs.Lines.{line_at}
+use Rattle.cl_macro.specs.declared.place.Place.{Place}
+use Rattle.cl_macro.specs.Rules.{Rules, TellsTokens}
 use Rattle.cl_macro.specs.declared.turn.Doing.{Doing}
 use Rattle.cl_macro.specs.declared.turn.Doing.TheVariants as doing
 use Rattle.cl_macro.specs.Turns.{Turn, Stays, Invokes, Misfits, Open, turn}
@@ -19,6 +24,12 @@ work_of level = reverse level.work
 abbrev pub ahead : Level → List Word
 ahead level = reverse level.work ++ level.rest.now
 
+-- the rules go by the tokens of C, and by this place
+pub record Suits (rules : Rules) (place : Place) : Type 0 where
+  pub tells : TellsTokens rules.one_token
+  pub file : rules.here.file ≡ place.file.now
+  pub line : rules.here.line ≡ place.line
+
 -- so many tokens are taken
 pub record Passes (n : ℕ) (old new : Level) : Type 0 where
   pub work : reverse new.work ≡ drop n (reverse old.work)
@@ -27,6 +38,14 @@ pub record Passes (n : ℕ) (old new : Level) : Type 0 where
 -- the macro of a name
 abbrev pub lookup : List Macro → List ℕ → Option Macro
 lookup macros name = find (λ m. same m.name name) macros
+
+-- the rules of each place of a file with this text, whose path is this string literal
+abbrev pub rules_of : List Macro → (List ℕ → Option Kind) → List ℕ → List ℕ → Span → Rules
+rules_of macros one_token file text at = record {
+  macros = lookup macros;
+  one_token = one_token;
+  here = record { file = file; line = line_at text at.from + 1 }
+}
 
 abbrev pub turned : Doing → List Word → Turn
 turned doing.Stays ws = Stays
@@ -52,7 +71,7 @@ abbrev pub Fitting : Doing → Type 0
 Fitting (doing.Invokes m n) = Takes m.now.params n
 Fitting _ = Unit {0}
 
-module _ (macros : List ℕ → Option Macro) where
+module _ (rules : Rules) where
   -- from one level and list of notes it has gone on to another, where these tokens stand before those that are in work
   pub record Stood (first : Level) (before : List Note) (head : List Word) (level : Level) (notes : List Note) : Type 0 where
     pub front : List Word
@@ -61,11 +80,11 @@ module _ (macros : List ℕ → Option Macro) where
     pub all : notes ≡ before ++ more
     pub none : replacements more ≡ 0
     pub kept : first.rest.now ≡ [] → level.rest.now ≡ []
-    pub walks : Walks macros (work_of first) first.rest.now front more (head ++ work_of level) level.rest.now
+    pub walks : Walks rules (work_of first) first.rest.now front more (head ++ work_of level) level.rest.now
 
   pub record Invoking (first : Level) (before : List Note) (level : Level) (notes : List Note) (found : Invoked) : Type 0 where
     pub stood : Stood first before (found.word ∷ []) level notes
-    pub turns : turn macros found.word (ahead level) ≡ Invokes found.mac.now (take found.count (ahead level))
+    pub turns : turn rules.macros found.word (ahead level) ≡ Invokes found.mac.now (take found.count (ahead level))
     pub within : found.count ≤ length (ahead level)
     pub fits : Takes found.mac.now.params found.count
 

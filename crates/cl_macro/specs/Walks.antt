@@ -1,6 +1,7 @@
 -- How the work goes on, from one moment to a later one.
 use Rattle.std.specs.Prelude.{◌≡◌, ℕ, List, [], ◌∷◌, ◌++◌, Bool, Option, Some, None}
 use Rattle.cl_base.specs.declared.macros.Macro.{Macro}
+use Rattle.cl_macro.specs.Rules.{Rules}
 use Rattle.cl_macro.specs.declared.word.Word.{Word}
 use Rattle.cl_macro.specs.declared.note.Note.{Note}
 use Rattle.cl_macro.specs.Made.{made, made_notes}
@@ -29,26 +30,26 @@ with_waiting f waiting = record {
   mac = f.mac; space = f.space; set = f.set; args = f.args; done = f.done; waiting = waiting; work = f.work; rest = f.rest; out = f.out
 }
 
-abbrev pub made_of : Frame → List (List Word) → List Word
-made_of f full = made f.mac f.args full f.space f.set ++ f.work
+abbrev pub made_of : Rules → Frame → List (List Word) → List Word
+made_of rules f full = made rules f.mac f.args full f.space f.set ++ f.work
 
-abbrev pub notes_of : Frame → List (List Word) → List Note
-notes_of f full = made_notes f.mac f.args full
+abbrev pub notes_of : Rules → Frame → List (List Word) → List Note
+notes_of rules f full = made_notes rules f.mac f.args full
 
-module _ (macros : List ℕ → Option Macro) where
+module _ (rules : Rules) where
   -- what comes of some tokens once `front` and `notes` have come of them
   pub record Comes (front : List Word) (notes : List Note) (work rest out left : List Word) (ns : List Note) : Type 0 where
     pub later : List Word
     pub more : List Note
-    pub works : Works macros work rest later left more
+    pub works : Works rules work rest later left more
     pub words : out ≡ front ++ later
     pub all : ns ≡ notes ++ more
 
   -- from the tokens `work` before `rest` it goes on to `next` before `behind`, with `front` and `notes`
   pub record Walks (work rest front : List Word) (notes : List Note) (next behind : List Word) : Type 0 where
-    pub on : (out left : List Word) (ns : List Note) → Works macros next behind out left ns
-        → Works macros work rest (front ++ out) left (notes ++ ns)
-    pub back : (out left : List Word) (ns : List Note) → Works macros work rest out left ns
+    pub on : (out left : List Word) (ns : List Note) → Works rules next behind out left ns
+        → Works rules work rest (front ++ out) left (notes ++ ns)
+    pub back : (out left : List Word) (ns : List Note) → Works rules work rest out left ns
         → Comes front notes next behind out left ns
 
   -- an invocation all of whose other arguments wait. `Goes work rest out notes`: how it goes on below
@@ -56,23 +57,23 @@ module _ (macros : List ℕ → Option Macro) where
     pub full : List (List Word)
     pub inner : List Note
     pub later : List Note
-    pub each : Each macros f.waiting full inner
-    pub goes : Goes (made_of f (f.done ++ full)) f.rest f.out later
-    pub all : ns ≡ inner ++ (notes_of f (f.done ++ full) ++ later)
+    pub each : Each rules f.waiting full inner
+    pub goes : Goes (made_of rules f (f.done ++ full)) f.rest f.out later
+    pub all : ns ≡ inner ++ (notes_of rules f (f.done ++ full) ++ later)
 
   -- an argument in work
   pub record Inside (Goes : List Word → List Word → List Word → List Note → Type 0) (f : Frame) (work rest before : List Word) (ns : List Note) : Type 0 where
     pub out : List Word
     pub first : List Note
     pub later : List Note
-    pub works : Works macros work rest out [] first
+    pub works : Works rules work rest out [] first
     pub called : Called Goes (with_done f (before ++ out)) later
     pub all : ns ≡ first ++ later
 
   -- the run's own tokens in work
   pub record Outside (total left work rest before : List Word) (ns : List Note) : Type 0 where
     pub out : List Word
-    pub works : Works macros work rest out left ns
+    pub works : Works rules work rest out left ns
     pub words : total ≡ before ++ out
 
   -- from here, where these invocations are in work, the innermost first, it all comes to the tokens `total`
@@ -96,8 +97,8 @@ pub record Leads (A B : List Word → List Word → List Note → Type 0) (notes
   pub back : (total left : List Word) (ns : List Note) → A total left ns → Later B notes total left ns
 
 -- the moments
-abbrev pub working : (List ℕ → Option Macro) → List Frame → List Word → List Word → List Word → List Word → List Word → List Note → Type 0
-working macros fs work rest before total left ns = Goes macros total left fs work rest before ns
+abbrev pub working : Rules → List Frame → List Word → List Word → List Word → List Word → List Word → List Note → Type 0
+working rules fs work rest before total left ns = Goes rules total left fs work rest before ns
 
-abbrev pub between : (List ℕ → Option Macro) → List Frame → Frame → List Word → List Word → List Note → Type 0
-between macros fs f total left ns = Between macros total left fs f ns
+abbrev pub between : Rules → List Frame → Frame → List Word → List Word → List Note → Type 0
+between rules fs f total left ns = Between rules total left fs f ns

@@ -1,16 +1,20 @@
 //! An invocation from its name to what it is replaced by.
 
 ghost use Rattle.std.specs.Prelude.{◌≡◌, ◌-◌, ◌+◌, ◌<◌, ◌≤◌, ◌++◌, ℕ, List, Option, length, take, IfOk, OnOk};
-ghost use Rattle.cl_base.specs.declared.macros.Macro.{Macro as TheMacro};
-ghost use Rattle.cl_macro.specs.Levels.{ahead, Takes};
+ghost use Rattle.cl_macro.specs.Levels.{ahead, Suits, Takes};
+ghost use Rattle.cl_macro.specs.Rules.{Rules};
+ghost use Rattle.cl_macro.specs.Walks.{notes_of};
 ghost use Rattle.cl_macro.specs.Turns.{invoking};
 ghost use Rattle.cl_macro.specs.Frames.{Proceeds, Replaced, begun_at, frame_of, frames, waits};
 
 use crate::args::{args_of, note_invocation, reversed, set_of};
 use crate::level::Level;
-use crate::made::{asked, lay, pieces, raws};
+use crate::body::Args;
+use crate::made::{lay, whole_body};
+use crate::needed::{asked, raws};
 use crate::note::Note;
 use crate::pending::Pending;
+use crate::place::Place;
 use crate::walk::Invoked;
 use cl_base::{List, Mem};
 use std::alloc::Global;
@@ -43,16 +47,17 @@ pub(crate) fn invoke<'a>(alloc: Global, level: Level<'a>, notes: &mut List<Note>
 /// Goes on with the next argument of an invocation, or with what replaces it.
 pub(crate) fn proceed<'a>(
     alloc: Global,
+    place: &Place,
     calls: &mut List<Pending<'a>>,
     notes: &mut List<Note>,
     pending: Pending<'a>,
 ) -> Mem<Level<'a>>
     ensures fewer { OnOk result (waits calls.new ≤ waits calls.old + length pending.entry.waiting) }
-    ensures proceeds { (macros : List ℕ → Option TheMacro) → IfOk result (λ level. Proceeds macros (frames calls.old) (frame_of pending.entry) notes.old (frames calls.new) level notes.new) }
+    ensures proceeds { (rules : Rules) → Suits rules place.now → IfOk result (λ level. Proceeds rules (frames calls.old) (frame_of pending.entry) notes.old (frames calls.new) level notes.new) }
 {
     let mut pending = pending;
     let Some(arg) = pending.waiting.pop() else {
-        let level = replaced(alloc, pending)?;
+        let level = replaced(alloc, place, notes, pending)?;
         return Ok(level);
     };
     let work = reversed(alloc, arg)?;
@@ -66,10 +71,16 @@ pub(crate) fn proceed<'a>(
 }
 
 /// What an invocation stands in, with what replaces it.
-fn replaced<'a>(alloc: Global, pending: Pending<'a>) -> Mem<Level<'a>>
-    ensures { IfOk result (λ level. Replaced (frame_of pending.entry) level) }
+fn replaced<'a>(alloc: Global, place: &Place, notes: &mut List<Note>, pending: Pending<'a>) -> Mem<Level<'a>>
+    ensures words { (rules : Rules) → Suits rules place.now → IfOk result (λ level. Replaced rules (frame_of pending.entry) level) }
+    ensures notes { (rules : Rules) → Suits rules place.now → OnOk result (notes.new ≡ notes.old ++ notes_of rules (frame_of pending.entry) pending.entry.done) }
 {
-    let words = pieces(alloc, pending.mac, &pending.done)?;
+    let args = Args {
+        mac: pending.mac,
+        raw: &pending.args,
+        full: &pending.done,
+    };
+    let words = whole_body(alloc, place, &args, notes)?;
     let mut level = pending.level;
     lay(alloc, words, pending.space, &pending.set, &mut level.work)?;
     Ok(level)

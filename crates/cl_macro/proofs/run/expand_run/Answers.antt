@@ -1,0 +1,1 @@
+use Rattle.cl_macro.proofs.run.expand_run.Goals as goal
