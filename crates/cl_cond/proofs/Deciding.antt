@@ -9,9 +9,11 @@ use Rattle.cl_cond.specs.declared.eval.IfValue.TheVariants.{BadIf}
 use Rattle.cl_cond.specs.declared.outcome.Outcome.{Outcome}
 use Rattle.cl_cond.specs.declared.word.Word.{Word}
 use Rattle.cl_cond.specs.Words.{class_of, words_from}
-use Rattle.cl_cond.specs.Expressions.{Tree, Reads, IsExpression, GoesOn, outcome_of}
-use Rattle.cl_cond.specs.Machine.{State, finished, step, waiting}
-use Rattle.cl_cond.specs.Conditions.{EvaluatesTo, IsMisfit, answer, answer_of}
+use Rattle.cl_cond.specs.Expressions.{Tree, Reads, IsExpression, GoesOn}
+use Rattle.cl_cond.specs.code.Machine.{State, finished, step, waiting}
+use Rattle.cl_cond.specs.Conditions.{EvaluatesTo, IsMisfit}
+use Rattle.cl_cond.specs.code.Outcomes.{answer, answer_of, outcome_of}
+use Rattle.cl_cond.proofs.Valuing.{answers}
 use Rattle.cl_cond.proofs.Running.{Finishes, go, go_append, go_none, read_finishes, stepped}
 use Rattle.cl_cond.proofs.Holding.{ReadAs, finished_read, taken_on}
 
@@ -102,7 +104,7 @@ ended words s None e f =
       }),
       refl,
     )
-ended words s (Some x) e f = let r : ReadAs words x = finished_read words s x e f in inl (r.tree, r.reads, ap answer r.is)
+ended words s (Some x) e f = let r : ReadAs words x = finished_read words s x e f in inl (r.tree, r.reads, ap answer r.is ∙ answers r.tree)
 
 pub at_end : (tokens : List PpToken) (i : ℕ) (s : State) (o : Option Outcome) (value : IfValue) → i ≤ length tokens → length tokens ≤ i → go (waiting []) (words_from 0 (take i tokens)) ≡ Some s → o ≡ finished s
     → value ≡ answer_of o (length tokens) → EvaluatesTo (words_from 0 tokens) value
@@ -144,7 +146,7 @@ one_misfit : (words : List Word) (i j : ℕ) → IsMisfit words i → IsMisfit w
 one_misfit words i j h k = ⊎_elim (λ e. e) (⊎_elim (λ l. absurd (not_before words i j h k l)) (λ l. absurd (not_before words j i k h l))) (cases_order i j)
 
 pub one_value : (words : List Word) (x y : IfValue) → EvaluatesTo words x → EvaluatesTo words y → x ≡ y
-one_value words x y (inl h) (inl k) = h.2 ∙ ap answer (one_outcome words h.0 k.0 h.1 k.1) ∙ sym k.2
+one_value words x y (inl h) (inl k) = h.2 ∙ sym (answers h.0) ∙ ap answer (one_outcome words h.0 k.0 h.1 k.1) ∙ answers k.0 ∙ sym k.2
 one_value words x y (inl h) (inr k) = absurd (k.1.none (h.0, h.1))
 one_value words x y (inr h) (inl k) = absurd (h.1.none (k.0, k.1))
 one_value words x y (inr h) (inr k) = h.2 ∙ ap BadIf (one_misfit words h.0 k.0 h.1 k.1) ∙ sym k.2

@@ -15,7 +15,7 @@ use Rattle.cl_cond.specs.declared.mark.Groups.{Groups}
 use Rattle.cl_cond.specs.declared.trouble.Trouble.{Trouble}
 use Rattle.cl_cond.specs.declared.trouble.Trouble.TheVariants.{Outside, AfterElse, Unended}
 use Rattle.cl_cond.specs.Sections.{GroupsOf, opens, parts, kept, kept_line, faults_of, fault_list, trouble_of, has_end}
-use Rattle.cl_cond.specs.Nesting.{after_line, spare_before, sections, ends_of, trouble_by, of_section, of_if, with_else}
+use Rattle.cl_cond.specs.code.Nesting.{after_line, spare_before, sections, ends_of, trouble_by, of_section, of_if, with_else}
 use Rattle.cl_cond.specs.Grouping.{Symbol, Derives, IsGroup, ends, missing, Group, Following, EndifLine, none, line, section, elif_group, else_group, no_else, endif_line}
 use Rattle.cl_cond.proofs.Following.{trouble_known}
 

@@ -8,7 +8,7 @@ use Rattle.cl_cond.specs.declared.mark.Mark.{Mark}
 use Rattle.cl_cond.specs.declared.trouble.Trouble.{Trouble}
 use Rattle.cl_cond.specs.declared.trouble.Trouble.TheVariants.{Outside, AfterElse, Unended}
 use Rattle.cl_cond.specs.Sections.{is_open, has_else, has_end, trouble, parts}
-use Rattle.cl_cond.specs.Nesting.{rest, with_else, sections, ends_of, trouble_by, of_section, of_end, of_if}
+use Rattle.cl_cond.specs.code.Nesting.{rest, with_else, sections, ends_of, trouble_by, of_section, of_end, of_if}
 
 -- what the lines before a place are, the newest first
 abbrev pub past : List Mark → ℕ → List Part

@@ -5,18 +5,19 @@ use Rattle.std.proofs.lemmas.Bool.{cases_lt}
 use Rattle.std.proofs.lemmas.Bool.Decides.{nat_tests}
 use Rattle.cl_cond.specs.declared.machine.Frame.{Frame}
 use Rattle.cl_cond.specs.declared.machine.Frame.TheVariants as frame
-use Rattle.cl_cond.specs.declared.number.Number.TheVariants.{Signed}
-use Rattle.cl_cond.specs.declared.operators.Operator.{Operator}
-use Rattle.cl_cond.specs.declared.operators.Operator.TheVariants as op
+use Rattle.cl_const.specs.declared.number.Number.TheVariants.{Signed}
+use Rattle.cl_const.specs.declared.characters.Constant.TheVariants.{Known}
+use Rattle.cl_const.specs.declared.operators.Operator.{Operator}
+use Rattle.cl_const.specs.declared.operators.Operator.TheVariants as op
 use Rattle.cl_cond.specs.declared.outcome.Outcome.{Outcome}
 use Rattle.cl_cond.specs.declared.outcome.Outcome.TheVariants.{Value}
 use Rattle.cl_cond.specs.declared.word.Class.{Class}
 use Rattle.cl_cond.specs.declared.word.Class.TheVariants as class
 use Rattle.cl_cond.specs.declared.word.Word.{Word}
-use Rattle.cl_cond.specs.Operators.{infix_level, is_prefix}
-use Rattle.cl_cond.specs.Outcomes.{prefix_outcome, infix_outcome, choice_outcome}
-use Rattle.cl_cond.specs.Expressions.{Tree, leaf, parens, unary, binary, choice, words_of, operator_of, IsPrefix, level_of, IsAt, outcome_of, Reads, GoesOn}
-use Rattle.cl_cond.specs.Machine.{IsLoose, State, begun, close_after, closed, colon_after, finished, gone_on, left_alone, passed_question, rank, reduce, step_by, finished_by, waiting}
+use Rattle.cl_const.specs.Operators.{infix_level, is_prefix}
+use Rattle.cl_cond.specs.code.Outcomes.{outcome_of, prefix_outcome, infix_outcome, choice_outcome}
+use Rattle.cl_cond.specs.Expressions.{Tree, leaf, parens, unary, binary, choice, words_of, operator_of, IsPrefix, level_of, IsAt, Reads, GoesOn}
+use Rattle.cl_cond.specs.code.Machine.{IsLoose, State, begun, close_after, closed, colon_after, finished, gone_on, left_alone, passed_question, rank, reduce, step_by, finished_by, waiting}
 use Rattle.cl_cond.proofs.Reducing.{reduce_loose, reduce_tight, reduce_none}
 use Rattle.cl_cond.proofs.Running.{go, stepped, level_below, level_is}
 
@@ -291,7 +292,7 @@ whole_read : {ws front : List Word} (t : Tree) → ws ≡ front ++ words_of t �
 whole_read t parts at (start e) = record { at = at; yields = sym (parts ∙ ap (λ (s : List Word). s ++ words_of t) e) }
 
 abbrev zero_word : Word
-zero_word = word 0 (class.Operand (Signed (pos 0)))
+zero_word = word 0 (class.Operand (Known (Signed (pos 0))))
 
 completes : (st : List Frame) (n : ℕ) (ws : List Word) (x : Outcome) → Stands n ws st x → GoesOn ws
 completes [] n ws x s = ([], (s.tree, subst (λ (l : List Word). Reads l s.tree) (sym (append-nil ws)) (whole_read s.tree s.parts (at_less s.tree n 1 s.needed s.at) s.waits)))
@@ -301,7 +302,7 @@ completes (frame.Question c ∷ st) n ws x s =
     let one : List Word = ws ++ k ∷ [] in
     let two : List Word = one ++ zero_word ∷ [] in
     let waits : Waits one (frame.Colon c x ∷ st) = colon_kept ws (frame.Question c ∷ st) x 0 n s in
-    let stands : Stands 12 two (frame.Colon c x ∷ st) (Value (Signed (pos 0))) = begin_kept one (frame.Colon c x ∷ st) 0 (class.Operand (Signed (pos 0))) waits in
+    let stands : Stands 12 two (frame.Colon c x ∷ st) (Value (Signed (pos 0))) = begin_kept one (frame.Colon c x ∷ st) 0 (class.Operand (Known (Signed (pos 0)))) waits in
     let less : Stands 1 two st (choice_outcome c x (Value (Signed (pos 0)))) = close 12 two (frame.Colon c x) st (Value (Signed (pos 0))) stands tt in
     goes_less ws k (goes_less one zero_word (completes st 1 two (choice_outcome c x (Value (Signed (pos 0)))) less))
 completes (frame.Prefix o p ∷ st) n ws x s = completes st 12 ws (prefix_outcome o p x) (close n ws (frame.Prefix o p) st x s tt)
@@ -310,7 +311,7 @@ completes (frame.Colon c f ∷ st) n ws x s = completes st 1 ws (choice_outcome 
 
 waits_on : (ws : List Word) (st : List Frame) → Waits ws st → GoesOn ws
 waits_on ws st h =
-    goes_less ws zero_word (completes st 12 (ws ++ zero_word ∷ []) (Value (Signed (pos 0))) (begin_kept ws st 0 (class.Operand (Signed (pos 0))) h))
+    goes_less ws zero_word (completes st 12 (ws ++ zero_word ∷ []) (Value (Signed (pos 0))) (begin_kept ws st 0 (class.Operand (Known (Signed (pos 0)))) h))
 
 here_on : (ws : List Word) (st : List Frame) (x : Option Outcome) → Here ws st x → GoesOn ws
 here_on ws st None h = waits_on ws st h

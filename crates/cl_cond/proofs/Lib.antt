@@ -3,10 +3,8 @@ pub mod Stepping
 pub mod Unique
 pub mod Deriving
 pub mod Reducing
-pub mod Digits
-pub mod Constants
-pub mod Utf8
 pub mod Running
 pub mod Holding
+pub mod Valuing
 pub mod Deciding
 pub mod Total

@@ -5,7 +5,7 @@ use Rattle.std.proofs.lemmas.Bool.Decides.{nat_tests}
 use Rattle.std.proofs.lemmas.List.{reverse-reverse}
 use Rattle.cl_cond.specs.declared.machine.Frame.{Frame}
 use Rattle.cl_cond.specs.declared.outcome.Outcome.{Outcome}
-use Rattle.cl_cond.specs.Machine.{IsLoose, State, closed, finished, finished_by, left_alone, rank, reduce}
+use Rattle.cl_cond.specs.code.Machine.{IsLoose, State, closed, finished, finished_by, left_alone, rank, reduce}
 
 pub reduce_none : (least : ℕ) (x : Outcome) → reduce least [] x ≡ ([], x)
 unfolding reduce

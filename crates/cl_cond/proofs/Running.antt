@@ -4,15 +4,16 @@ use Rattle.std.specs.Prelude.{nat_le}
 use Rattle.std.proofs.lemmas.Bool.Decides.{nat_tests}
 use Rattle.cl_cond.specs.declared.machine.Frame.{Frame}
 use Rattle.cl_cond.specs.declared.machine.Frame.TheVariants as frame
-use Rattle.cl_cond.specs.declared.operators.Operator.{Operator}
-use Rattle.cl_cond.specs.declared.operators.Operator.TheVariants as op
+use Rattle.cl_const.specs.declared.operators.Operator.{Operator}
+use Rattle.cl_const.specs.declared.operators.Operator.TheVariants as op
 use Rattle.cl_cond.specs.declared.outcome.Outcome.{Outcome}
 use Rattle.cl_cond.specs.declared.word.Class.{Class}
 use Rattle.cl_cond.specs.declared.word.Class.TheVariants as class
 use Rattle.cl_cond.specs.declared.word.Word.{Word}
-use Rattle.cl_cond.specs.Operators.{infix_level}
-use Rattle.cl_cond.specs.Expressions.{Tree, leaf, parens, unary, binary, choice, words_of, operator_of, IsOperand, IsPrefix, level_of, IsAt, operand_outcome, outcome_of, Reads}
-use Rattle.cl_cond.specs.Machine.{IsLoose, State, begun, close_after, colon_after, finished, gone_on, left_alone, passed_operator, passed_question, reduce, standing, step, waiting}
+use Rattle.cl_const.specs.Operators.{infix_level}
+use Rattle.cl_cond.specs.Expressions.{Tree, leaf, parens, unary, binary, choice, words_of, operator_of, IsOperand, IsPrefix, level_of, IsAt, Reads}
+use Rattle.cl_cond.specs.code.Outcomes.{operand_outcome, outcome_of}
+use Rattle.cl_cond.specs.code.Machine.{IsLoose, State, begun, close_after, colon_after, finished, gone_on, left_alone, passed_operator, passed_question, reduce, standing, step, waiting}
 use Rattle.cl_cond.proofs.Reducing.{reduce_loose, reduce_tight}
 
 abbrev pub stepped : Option State → Word → Option State
@@ -74,7 +75,7 @@ level_is class.Other h = absurd (omega arith)
 
 -- ---- one token
 
-begin_operand : (st : List Frame) (place : ℕ) (c : Class) → IsOperand c → begun st place c ≡ standing st (operand_outcome c)
+begin_operand : (st : List Frame) (place : ℕ) (c : Class) → IsOperand c → begun st place c ≡ standing st (operand_outcome place c)
 begin_operand st place (class.Operand n) h = refl
 begin_operand st place (class.Operator o) h = absurd h
 begin_operand st place class.Open h = absurd h
@@ -108,7 +109,7 @@ on_binary class.Other place wide st x y h e = absurd (omega arith)
 
 -- what waits and what stands there behind a tree: its right edge waits
 abbrev pub feed : Tree → List Frame → List Frame × Outcome
-feed (leaf w) st = (st, operand_outcome w.class)
+feed (leaf w) st = (st, operand_outcome w.place w.class)
 feed (parens a t b) st = (st, outcome_of t)
 feed (unary w t) st = feed t (frame.Prefix (operator_of w.class) w.place ∷ st)
 feed (binary l w r) st = feed r (frame.Infix (operator_of w.class) w.place (outcome_of l) ∷ st)

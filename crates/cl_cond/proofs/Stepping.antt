@@ -14,7 +14,7 @@ use Rattle.cl_cond.specs.declared.mark.Mark.{Mark}
 use Rattle.cl_cond.specs.declared.trouble.Trouble.{Trouble}
 use Rattle.cl_cond.specs.Lines.{Lines, IsLine, is_hash, named, token_at}
 use Rattle.cl_cond.specs.Sections.{trouble_of, parts, kept, kept_line, faults_of, fault_list}
-use Rattle.cl_cond.specs.Nesting.{sections, after_line, ends_of, ends_after, trouble_by, HasName}
+use Rattle.cl_cond.specs.code.Nesting.{sections, after_line, ends_of, ends_after, trouble_by, HasName}
 use Rattle.cl_cond.proofs.Following.{past, trouble_known}
 
 pub drop_item : (lines : List Mark) (i : ℕ) (d : Mark) → i < length lines → drop i lines ≡ get_or lines i d ∷ drop (i + 1) lines

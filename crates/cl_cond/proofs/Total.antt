@@ -5,9 +5,10 @@ use Rattle.cl_base.specs.declared.token.Kind.TheVariants as kind
 use Rattle.cl_cond.specs.declared.eval.IfValue.{IfValue}
 use Rattle.cl_cond.specs.declared.eval.IfValue.TheVariants.{BadIf}
 use Rattle.cl_cond.specs.declared.word.Word.{Word}
-use Rattle.cl_cond.specs.Machine.{State, finished, step, waiting}
+use Rattle.cl_cond.specs.code.Machine.{State, finished, step, waiting}
 use Rattle.cl_cond.specs.Words.{class_of, words_from}
-use Rattle.cl_cond.specs.Conditions.{EvaluatesTo, answer_of}
+use Rattle.cl_cond.specs.Conditions.{EvaluatesTo}
+use Rattle.cl_cond.specs.code.Outcomes.{answer_of}
 use Rattle.cl_cond.proofs.Running.{go}
 use Rattle.cl_cond.proofs.Deciding.{misfit, at_end, goes_more}
 

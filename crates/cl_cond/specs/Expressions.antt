@@ -1,15 +1,11 @@
--- Conditions as trees (N1570 6.5, 6.6): what an expression is, and what it comes to.
-use Rattle.std.specs.Prelude.{◌≡◌, ℕ, ◌+◌, ◌≤◌, true, pos, List, [], ◌∷◌, ◌++◌}
-use Rattle.cl_cond.specs.declared.number.Number.TheVariants.{Signed}
-use Rattle.cl_cond.specs.declared.operators.Operator.{Operator}
-use Rattle.cl_cond.specs.declared.operators.Operator.TheVariants as op
-use Rattle.cl_cond.specs.declared.outcome.Outcome.{Outcome}
-use Rattle.cl_cond.specs.declared.outcome.Outcome.TheVariants.{Value}
+-- Conditions as trees (N1570 6.5, 6.6).
+use Rattle.std.specs.Prelude.{◌≡◌, ℕ, ◌+◌, ◌≤◌, true, List, [], ◌∷◌, ◌++◌}
+use Rattle.cl_const.specs.declared.operators.Operator.{Operator}
+use Rattle.cl_const.specs.declared.operators.Operator.TheVariants as op
 use Rattle.cl_cond.specs.declared.word.Class.{Class}
 use Rattle.cl_cond.specs.declared.word.Class.TheVariants as class
 use Rattle.cl_cond.specs.declared.word.Word.{Word}
-use Rattle.cl_cond.specs.Operators.{infix_level, is_prefix}
-use Rattle.cl_cond.specs.Outcomes.{prefix_outcome, infix_outcome, choice_outcome}
+use Rattle.cl_const.specs.Operators.{infix_level, is_prefix}
 
 pub data Tree : Type 0 where
   leaf : Word → Tree
@@ -53,18 +49,6 @@ IsAt n (parens a t b) = (a.class ≡ class.Open) × IsAt 1 t × (b.class ≡ cla
 IsAt n (unary w t) = (n ≤ 12) × IsPrefix w.class × IsAt 12 t
 IsAt n (binary l w r) = (2 ≤ level_of w.class) × (n ≤ level_of w.class) × IsAt (level_of w.class) l × IsAt (level_of w.class + 1) r
 IsAt n (choice c q f k s) = (n ≤ 1) × IsAt 2 c × (q.class ≡ class.Question) × IsAt 1 f × (k.class ≡ class.Colon) × IsAt 1 s
-
-abbrev pub operand_outcome : Class → Outcome
-operand_outcome (class.Operand n) = Value n
-operand_outcome _ = Value (Signed (pos 0))
-
--- what it comes to
-abbrev pub outcome_of : Tree → Outcome
-outcome_of (leaf w) = operand_outcome w.class
-outcome_of (parens a t b) = outcome_of t
-outcome_of (unary w t) = prefix_outcome (operator_of w.class) w.place (outcome_of t)
-outcome_of (binary l w r) = infix_outcome (operator_of w.class) w.place (outcome_of l) (outcome_of r)
-outcome_of (choice c q f k s) = choice_outcome (outcome_of c) (outcome_of f) (outcome_of s)
 
 -- the tree is one of an integer constant expression (6.6) of these tokens
 pub record Reads (words : List Word) (tree : Tree) : Type 0 where

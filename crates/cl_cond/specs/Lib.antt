@@ -1,13 +1,8 @@
 pub mod Lines
 pub mod Sections
-pub mod Nesting
 pub mod Grouping
-pub mod Numbers
-pub mod Operators
-pub mod Integers
-pub mod Characters
 pub mod Words
-pub mod Outcomes
 pub mod Expressions
-pub mod Machine
+pub mod Values
 pub mod Conditions
+pub mod code

@@ -3,18 +3,24 @@ use Rattle.std.specs.Prelude.{ℕ, pos, ◌+◌, ◌==◌, ◌&&◌, if◌then�
 use Rattle.cl_base.specs.declared.token.PpToken.{PpToken}
 use Rattle.cl_base.specs.declared.token.Kind.{Kind}
 use Rattle.cl_base.specs.declared.token.Kind.TheVariants as kind
-use Rattle.cl_cond.specs.declared.number.Number.{Number}
-use Rattle.cl_cond.specs.declared.number.Number.TheVariants.{Signed}
-use Rattle.cl_cond.specs.declared.operators.Operator.TheVariants as op
+use Rattle.cl_const.specs.declared.characters.Constant.{Constant}
+use Rattle.cl_const.specs.declared.characters.Constant.TheVariants.{Known}
+use Rattle.cl_const.specs.declared.number.Number.{Number}
+use Rattle.cl_const.specs.declared.number.Number.TheVariants.{Signed}
+use Rattle.cl_const.specs.declared.operators.Operator.TheVariants as op
 use Rattle.cl_cond.specs.declared.word.Class.{Class}
 use Rattle.cl_cond.specs.declared.word.Class.TheVariants.{Operand, Operator, Open, Close, Question, Colon, Other}
 use Rattle.cl_cond.specs.declared.word.Word.{Word}
-use Rattle.cl_cond.specs.Integers.{integer}
-use Rattle.cl_cond.specs.Characters.{character}
+use Rattle.cl_const.specs.Integers.{integer}
+use Rattle.cl_const.specs.Characters.{character}
 
 abbrev pub class_of_number : Option Number → Class
 class_of_number None = Other
-class_of_number (Some n) = Operand n
+class_of_number (Some n) = Operand (Known n)
+
+abbrev pub class_of_constant : Option Constant → Class
+class_of_constant None = Other
+class_of_constant (Some constant) = Operand constant
 
 abbrev pub class_of_byte : ℕ → Class
 class_of_byte b =
@@ -55,9 +61,9 @@ class_of_text (a ∷ b ∷ []) = class_of_pair a b
 class_of_text _ = Other
 
 abbrev pub class_by : Kind → List ℕ → Class
-class_by kind.Ident text = Operand (Signed (pos 0))
+class_by kind.Ident text = Operand (Known (Signed (pos 0)))
 class_by kind.Number text = class_of_number (integer text)
-class_by kind.Char text = class_of_number (character text)
+class_by kind.Char text = class_of_constant (character text)
 class_by kind.Punct text = class_of_text text
 class_by _ text = Other
 

@@ -2,10 +2,10 @@
 
 ghost use Rattle.std.specs.Prelude.{◌≡◌, ◌<◌, ◌^◌, IfOk};
 ghost use Rattle.cl_cond.specs.Words.{words_from};
-ghost use Rattle.cl_cond.specs.Conditions.{EvaluatesTo, answer_of};
+ghost use Rattle.cl_cond.specs.Conditions.{EvaluatesTo};
+ghost use Rattle.cl_cond.specs.code.Outcomes.{answer_of};
 
 use crate::machine::Machine;
-use crate::number::Number;
 use crate::outcome::Outcome;
 use crate::word::{Word, class_of};
 use cl_base::{Mem, Memory, PpToken};
@@ -21,8 +21,8 @@ pub enum IfValue {
     Value { bits: u64, unsigned: bool },
     /// The condition has no value. The token of this number, from 0, is the first one that no integer constant
     /// expression has after those before it; where one is missing at the end it is the number of tokens. In an
-    /// expression it is the operator that fails first, where operands are worked from left to right and before their
-    /// operator.
+    /// expression it is the operator that fails first, or the constant whose value is needed and isn't known, where
+    /// operands are worked from left to right and before their operator.
     BadIf { place: u32 },
 }
 
@@ -56,13 +56,9 @@ fn answer_of(outcome: Option<Outcome>, end: u32) -> IfValue
     ensures { result ≡ answer_of outcome end }
 {
     match outcome {
-        Some(Outcome::Value(Number::Signed(value))) => IfValue::Value {
-            bits: value.cast_unsigned(),
-            unsigned: false,
-        },
-        Some(Outcome::Value(Number::Unsigned(bits))) => IfValue::Value {
-            bits,
-            unsigned: true,
+        Some(Outcome::Value(number)) => IfValue::Value {
+            bits: number.as_unsigned(),
+            unsigned: number.is_unsigned(),
         },
         Some(Outcome::Fails { place, .. }) => IfValue::BadIf { place },
         None => IfValue::BadIf { place: end },

@@ -3,7 +3,7 @@
 ghost use Rattle.std.specs.Prelude.{◌≡◌, ◌<◌, ◌^◌, [], ◌++◌, length, IfOk};
 ghost use Rattle.cl_cond.specs.Lines.{Lines};
 ghost use Rattle.cl_cond.specs.Sections.{GroupsOf, fault_list, faults_of, kept, kept_line};
-ghost use Rattle.cl_cond.specs.Nesting.{HasName};
+ghost use Rattle.cl_cond.specs.code.Nesting.{HasName};
 
 use crate::lines::lines;
 use crate::mark::{Groups, Mark};

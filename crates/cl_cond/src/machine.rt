@@ -1,14 +1,13 @@
 //! Works a condition from token to token.
 
 ghost use Rattle.std.specs.Prelude.{◌≡◌, ◌≤◌, ◌∷◌, [], reverse, IfOk, MatchOption, None};
-ghost use Rattle.cl_cond.specs.Operators.{infix_level};
-ghost use Rattle.cl_cond.specs.Machine.{IsLoose, begun, closed, close_after, finished, gone_on, is_tight, passed_operator, passed_question, colon_after, rank, reduce, said, state_of, step, waiting};
+ghost use Rattle.cl_const.specs.Operators.{infix_level};
+ghost use Rattle.cl_cond.specs.code.Machine.{IsLoose, begun, closed, close_after, finished, gone_on, is_tight, passed_operator, passed_question, colon_after, rank, reduce, said, state_of, step, waiting};
 
-use crate::number::Number;
-use crate::operators::{Operator, infix_level, is_prefix};
-use crate::outcome::{Outcome, choice_outcome, infix_outcome, prefix_outcome};
+use crate::outcome::{Outcome, choice_outcome, constant_outcome, infix_outcome, prefix_outcome};
 use crate::word::{Class, Word};
 use cl_base::{List, Mem};
+use cl_const::{Operator, infix_level, is_prefix};
 use std::alloc::Global;
 
 /// What waits for an operand to its right.
@@ -132,8 +131,8 @@ impl Machine {
         ensures { IfOk result (λ fine. said fine (state_of self.new) ≡ begun (reverse self.old.stack) word.place word.class) }
     {
         match word.class {
-            Class::Operand(number) => {
-                self.focus = Some(Outcome::Value(number));
+            Class::Operand(constant) => {
+                self.focus = Some(constant_outcome(constant, word.place));
                 Ok(true)
             }
             Class::Open => self.wait(Frame::Open),

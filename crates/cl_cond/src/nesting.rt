@@ -2,7 +2,7 @@
 
 ghost use Rattle.std.specs.Prelude.{◌≡◌, ◌∷◌, ◌<◌, ◌^◌, false, if◌then◌else◌, length, reverse, IfOk};
 ghost use Rattle.cl_cond.specs.Sections.{parts};
-ghost use Rattle.cl_cond.specs.Nesting.{after_line, ends_after, ends_of, noted, of_if, of_section, rest, spare_before, trouble_by, with_else};
+ghost use Rattle.cl_cond.specs.code.Nesting.{after_line, ends_after, ends_of, noted, of_if, of_section, rest, spare_before, trouble_by, with_else};
 
 use crate::mark::{Condition, Mark, Part};
 use crate::trouble::Trouble;

@@ -1,20 +1,29 @@
 //! What the parts of a condition come to.
 
 ghost use Rattle.std.specs.Prelude.{◌≡◌};
-ghost use Rattle.cl_cond.specs.Outcomes.{applied, choice_outcome, given, in_type, infix_outcome, infix_unsigned, logical_outcome, outcome_unsigned, prefix_outcome, prefix_unsigned, truth_of};
+ghost use Rattle.cl_cond.specs.code.Outcomes.{applied, choice_outcome, constant_outcome, given, in_type, infix_outcome, logical_outcome, outcome_unsigned, prefix_outcome, truth_of};
 
-use crate::number::Number;
-use crate::operators::{Operator, apply, apply_prefix};
+use cl_const::{Constant, Number, Operator, apply, apply_prefix, infix_unsigned, prefix_unsigned};
 
-/// What an expression comes to: a value, or the operator at this place fails first. The type is known in both.
+/// What an expression comes to: a value, or the token at this place fails first. The type is known in both.
 #[derive(Clone, Copy)]
 pub enum Outcome {
     Value(Number),
     Fails { place: u32, unsigned: bool },
 }
 
+/// What a constant at this place comes to. One whose value isn't known fails where it is worked.
+pub fn constant_outcome(constant: Constant, place: u32) -> Outcome
+    ensures { result ≡ constant_outcome place constant }
+{
+    match constant {
+        Constant::Known(number) => Outcome::Value(number),
+        Constant::Unknown { unsigned } => Outcome::Fails { place, unsigned },
+    }
+}
+
 /// Whether its type is unsigned.
-pub fn outcome_unsigned(outcome: Outcome) -> bool
+fn outcome_unsigned(outcome: Outcome) -> bool
     ensures { result ≡ outcome_unsigned outcome }
 {
     match outcome {
@@ -41,7 +50,7 @@ pub fn prefix_outcome(operator: Operator, place: u32, operand: Outcome) -> Outco
         Outcome::Value(number) => given(
             apply_prefix(operator, number),
             place,
-            number.is_unsigned(),
+            prefix_unsigned(operator, number.is_unsigned()),
         ),
         Outcome::Fails { place, unsigned } => {
             Outcome::Fails {
@@ -49,16 +58,6 @@ pub fn prefix_outcome(operator: Operator, place: u32, operand: Outcome) -> Outco
                 unsigned: prefix_unsigned(operator, unsigned),
             }
         }
-    }
-}
-
-/// Whether the operator's result is unsigned, where its operand is so or not.
-fn prefix_unsigned(operator: Operator, unsigned: bool) -> bool
-    ensures { result ≡ prefix_unsigned operator unsigned }
-{
-    match operator {
-        Operator::Not => false,
-        _ => unsigned,
     }
 }
 
@@ -84,24 +83,6 @@ fn applied(operator: Operator, place: u32, left: Outcome, right: Outcome) -> Out
         (Outcome::Value(left), Outcome::Value(right)) => {
             given(apply(operator, left, right), place, unsigned)
         }
-    }
-}
-
-/// Whether the operator's result is unsigned, where its operands are so or not.
-fn infix_unsigned(operator: Operator, left: bool, right: bool) -> bool
-    ensures { result ≡ infix_unsigned operator left right }
-{
-    match operator {
-        Operator::Plus
-        | Operator::Minus
-        | Operator::Times
-        | Operator::Divide
-        | Operator::Remainder
-        | Operator::BitOr
-        | Operator::BitXor
-        | Operator::BitAnd => left || right,
-        Operator::ShiftLeft | Operator::ShiftRight => left,
-        _ => false,
     }
 }
 

@@ -1,19 +1,16 @@
 //! What the tokens of a condition are in its grammar.
 
 ghost use Rattle.std.specs.Prelude.{◌≡◌};
-ghost use Rattle.cl_cond.specs.Words.{class_of, class_of_byte, class_of_number, class_of_pair, class_of_text};
+ghost use Rattle.cl_cond.specs.Words.{class_of, class_of_byte, class_of_constant, class_of_number, class_of_pair, class_of_text};
 
-use crate::characters::character;
-use crate::integers::integer;
-use crate::number::Number;
-use crate::operators::Operator;
 use cl_base::{Kind, PpToken};
+use cl_const::{Constant, Number, Operator, character, integer};
 
 /// What a token of a condition is.
 #[derive(Clone, Copy)]
 pub enum Class {
     /// A constant, or an identifier, which counts 0.
-    Operand(Number),
+    Operand(Constant),
     Operator(Operator),
     /// `(`.
     Open,
@@ -39,9 +36,9 @@ pub fn class_of(token: &PpToken) -> Class
     ensures { result ≡ class_of token.now }
 {
     match token.kind {
-        Kind::Ident => Class::Operand(Number::Signed(0)),
+        Kind::Ident => Class::Operand(Constant::Known(Number::Signed(0))),
         Kind::Number => class_of_number(integer(token.text.bytes())),
-        Kind::Char => class_of_number(character(token.text.bytes())),
+        Kind::Char => class_of_constant(character(token.text.bytes())),
         Kind::Punct => class_of_text(token.text.bytes()),
         Kind::Str | Kind::Header | Kind::Other => Class::Other,
     }
@@ -51,7 +48,16 @@ fn class_of_number(number: Option<Number>) -> Class
     ensures { result ≡ class_of_number number }
 {
     match number {
-        Some(number) => Class::Operand(number),
+        Some(number) => Class::Operand(Constant::Known(number)),
+        None => Class::Other,
+    }
+}
+
+fn class_of_constant(constant: Option<Constant>) -> Class
+    ensures { result ≡ class_of_constant constant }
+{
+    match constant {
+        Some(constant) => Class::Operand(constant),
         None => Class::Other,
     }
 }

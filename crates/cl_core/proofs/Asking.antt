@@ -78,6 +78,7 @@ all_left_waiting P core (call.DidChange path version (Some text)) all =
     all_if P (is_some (doc_at core.docs path)) (filter (λ w. not (bytes_eq w.job.path path)) core.pending) core.pending
     (all_passed P (λ w. not (bytes_eq w.job.path path)) core.pending all) all
 all_left_waiting P core (call.DidClose path) all = all
+all_left_waiting P core (call.Watched paths) all = all
 all_left_waiting P core (call.Cancel i) all = all_passed P (λ w. not (same_id i w.id)) core.pending all
 all_left_waiting P core (call.Symbols path) all = all
 all_left_waiting P core call.Unknown all = all
@@ -130,6 +131,7 @@ all_started_if messages core rs i None call.Exit is stands e = tt
 all_started_if messages core rs i None (call.DidOpen path version text) is stands e = tt
 all_started_if messages core rs i None (call.DidChange path version text) is stands e = tt
 all_started_if messages core rs i None (call.DidClose path) is stands e = tt
+all_started_if messages core rs i None (call.Watched paths) is stands e = tt
 all_started_if messages core rs i None (call.Cancel j) is stands e = tt
 all_started_if messages core rs i None (call.Symbols path) is stands e =
     newly_asks messages core rs i path (doc_at core.docs path) is stands

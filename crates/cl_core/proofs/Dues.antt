@@ -103,6 +103,7 @@ dues_to_request n mark i None call.Exit = refl
 dues_to_request n mark i None (call.DidOpen path version text) = refl
 dues_to_request n mark i None (call.DidChange path version text) = refl
 dues_to_request n mark i None (call.DidClose path) = refl
+dues_to_request n mark i None (call.Watched paths) = refl
 dues_to_request n mark i None (call.Cancel j) = refl
 dues_to_request n mark i None (call.Symbols path) = refl
 dues_to_request n mark i None call.Unknown = refl
@@ -143,6 +144,7 @@ dues_to_notice messages core (call.DidChange path version (Some text)) mark stan
     (stands_open messages core path stands)
     (ended_dues messages core (λ w. bytes_eq w.job.path path) (asks_on path) mark how.Modified (λ w. refl) stands)
 dues_to_notice messages core (call.DidClose path) mark stands = refl
+dues_to_notice messages core (call.Watched paths) mark stands = refl
 dues_to_notice messages core (call.Cancel i) mark stands =
     ended_dues messages core (λ w. same_id i w.id) (asks_by i) mark how.Cancelled (λ w. refl) stands
 dues_to_notice messages core (call.Symbols path) mark stands = refl

@@ -33,6 +33,7 @@ marks_of_request n mark i None call.Exit = tt
 marks_of_request n mark i None (call.DidOpen path version text) = tt
 marks_of_request n mark i None (call.DidChange path version text) = tt
 marks_of_request n mark i None (call.DidClose path) = tt
+marks_of_request n mark i None (call.Watched paths) = tt
 marks_of_request n mark i None (call.Cancel j) = tt
 marks_of_request n mark i None (call.Symbols path) = tt
 marks_of_request n mark i None call.Unknown = tt

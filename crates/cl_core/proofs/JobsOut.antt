@@ -121,6 +121,7 @@ few_if core None i call.Exit = inl refl
 few_if core None i (call.DidOpen path version text) = inl refl
 few_if core None i (call.DidChange path version text) = inl refl
 few_if core None i (call.DidClose path) = inl refl
+few_if core None i (call.Watched paths) = inl refl
 few_if core None i (call.Cancel j) = inl refl
 few_if core None i call.Unknown = inl refl
 few_if core None i (call.BadParams b) = inl refl

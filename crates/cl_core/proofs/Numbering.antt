@@ -65,6 +65,7 @@ started_below_if core None i call.Exit = tt
 started_below_if core None i (call.DidOpen path version text) = tt
 started_below_if core None i (call.DidChange path version text) = tt
 started_below_if core None i (call.DidClose path) = tt
+started_below_if core None i (call.Watched paths) = tt
 started_below_if core None i (call.Cancel j) = tt
 started_below_if core None i call.Unknown = tt
 started_below_if core None i (call.BadParams b) = tt

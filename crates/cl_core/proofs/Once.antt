@@ -89,6 +89,7 @@ notice_due messages past call.Initialize n = omega arith
 notice_due messages past call.Shutdown n = omega arith
 notice_due messages past call.Exit n = omega arith
 notice_due messages past (call.DidClose path) n = omega arith
+notice_due messages past (call.Watched paths) n = omega arith
 notice_due messages past (call.Symbols path) n = omega arith
 notice_due messages past call.Unknown n = omega arith
 notice_due messages past (call.BadParams b) n = omega arith
@@ -101,6 +102,7 @@ request_due k None call.Exit n = omega arith
 request_due k None (call.DidOpen path version text) n = omega arith
 request_due k None (call.DidChange path version text) n = omega arith
 request_due k None (call.DidClose path) n = omega arith
+request_due k None (call.Watched paths) n = omega arith
 request_due k None (call.Cancel i) n = omega arith
 request_due k None (call.Symbols path) n = omega arith
 request_due k None call.Unknown n = omega arith
@@ -143,6 +145,7 @@ asked_due k i None call.Exit asked = let a = (asked refl).0 in absurd (cc)
 asked_due k i None (call.DidOpen path version text) asked = let a = (asked refl).0 in absurd (cc)
 asked_due k i None (call.DidChange path version text) asked = let a = (asked refl).0 in absurd (cc)
 asked_due k i None (call.DidClose path) asked = let a = (asked refl).0 in absurd (cc)
+asked_due k i None (call.Watched paths) asked = let a = (asked refl).0 in absurd (cc)
 asked_due k i None (call.Cancel j) asked = let a = (asked refl).0 in absurd (cc)
 asked_due k i None call.Unknown asked = let a = (asked refl).0 in absurd (cc)
 asked_due k i None (call.BadParams b) asked = let a = (asked refl).1 in absurd (cc)

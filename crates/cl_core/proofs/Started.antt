@@ -54,6 +54,7 @@ mark_if core None i call.Exit = tt
 mark_if core None i (call.DidOpen path version text) = tt
 mark_if core None i (call.DidChange path version text) = tt
 mark_if core None i (call.DidClose path) = tt
+mark_if core None i (call.Watched paths) = tt
 mark_if core None i (call.Cancel j) = tt
 mark_if core None i call.Unknown = tt
 mark_if core None i (call.BadParams b) = tt

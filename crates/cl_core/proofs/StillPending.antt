@@ -131,6 +131,7 @@ after_request core ws ns mark i None call.Exit new e accepted = none_started ws 
 after_request core ws ns mark i None (call.DidOpen path version text) new e accepted = none_started ws ns e
 after_request core ws ns mark i None (call.DidChange path version text) new e accepted = none_started ws ns e
 after_request core ws ns mark i None (call.DidClose path) new e accepted = none_started ws ns e
+after_request core ws ns mark i None (call.Watched paths) new e accepted = none_started ws ns e
 after_request core ws ns mark i None (call.Cancel j) new e accepted = none_started ws ns e
 after_request core ws ns mark i None (call.Symbols path) new e accepted = started core ws ns i path (doc_at core.docs path) e (sym (is_some-text (doc_at core.docs path)) ∙ accepted refl)
 after_request core ws ns mark i None call.Unknown new e accepted = none_started ws ns e
@@ -168,6 +169,7 @@ after_notice messages core (call.DidChange path version (Some text)) mark stands
     (filter (λ w. not (bytes_eq w.job.path path)) core.pending) core.pending
     (after_ended messages core (λ w. bytes_eq w.job.path path) (asks_on path) mark how.Modified (λ w. refl) stands)
 after_notice messages core (call.DidClose path) mark stands = refl
+after_notice messages core (call.Watched paths) mark stands = refl
 after_notice messages core (call.Cancel i) mark stands =
     after_ended messages core (λ w. same_id i w.id) (asks_by i) mark how.Cancelled (λ w. refl) stands
 after_notice messages core (call.Symbols path) mark stands = refl

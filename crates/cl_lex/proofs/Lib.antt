@@ -3,7 +3,8 @@ mod Classes
 mod HeldFacts
 mod Joining
 mod Lexed
-mod Longest
+pub mod Longest
+mod Machine
 mod Order
 mod Pass
 mod PlainText

@@ -13,6 +13,7 @@ mod scan;
 mod single;
 mod source;
 mod tokens;
+mod universal;
 
 pub use laws::one_lexing;
 pub use single::one_token;

@@ -17,7 +17,7 @@ use Rattle.cl_macro.specs.Made.{made, made_notes}
 use Rattle.cl_macro.specs.Replacing.{Works, replacements, done}
 use Rattle.cl_macro.specs.Levels.{ahead, work_of, Stood, Invoking, Ended, Passes}
 use Rattle.cl_macro.specs.Walks.{Frame, Leads, Later, working, between, with_done, with_waiting, made_of, notes_of, Outside, Goes}
-use Rattle.cl_macro.specs.Frames.{Closed, Proceeds, Runs, Finds, Ends, Replaced, at_level, begun, begun_at, frame_of, frames, waits}
+use Rattle.cl_macro.specs.Frames.{Closed, Short, Proceeds, Runs, Finds, Ends, Replaced, at_level, begun, begun_at, frame_of, frames, waits}
 use Rattle.cl_macro.specs.Outermost.{Wholly, Reached}
 use Rattle.cl_macro.proofs.Walking.{append_nil}
 use Rattle.cl_macro.proofs.Leading.{leads_none, leads_then, leads_walks, leads_invokes, leads_ends, leads_next, leads_closes}
@@ -50,6 +50,12 @@ took_zero (Some close) = took_none (place_of close)
 
 invoking_one : (w : Word) (ws : List Word) → replacements (invoking w ws) ≡ 1
 invoking_one w ws = let t = took_zero (close_of ws) in let e : replacements (invoking w ws) ≡ 0 + (1 + replacements (took (close_of ws))) = refl in omega arith
+
+pub le_trans : (a b c : ℕ) → a ≤ b → b ≤ c → a ≤ c
+le_trans a b c h k = omega arith
+
+pub popped_short : (n : ℕ) (calls calls2 : List Pending) (p : Pending) → calls ≡ calls2 ++ p ∷ [] → Short n (frames calls) → (length p.level.rest.now ≤ n) × Short n (frames calls2)
+popped_short n calls calls2 p e s = subst (λ (fs : List Frame). Short n fs) (pushed_frames calls2 calls p e) s
 
 module _ (rules : Rules) where
   -- a moment by the equal parts

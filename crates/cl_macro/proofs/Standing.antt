@@ -1,5 +1,5 @@
 -- The steps of a level.
-use Rattle.std.proofs.Common.{◌≡◌, ℕ, zero, suc, ◌+◌, ◌-◌, ◌≤◌, ◌<◌, Bool, true, false, List, [], ◌∷◌, ◌++◌, length, drop, take, reverse, Option, Some, None, refl, sym, ap, subst, ◌∙◌, arith, append_assoc, add_assoc, zero-add}
+use Rattle.std.proofs.Common.{length-drop, ◌≡◌, ℕ, zero, suc, ◌+◌, ◌-◌, ◌≤◌, ◌<◌, Bool, true, false, List, [], ◌∷◌, ◌++◌, length, drop, take, reverse, Option, Some, None, refl, sym, ap, subst, ◌∙◌, arith, append_assoc, add_assoc, zero-add}
 use Rattle.std.specs.Prelude.{if◌then◌else◌}
 use Rattle.std.proofs.lemmas.List.{length-reverse}
 use Rattle.std.proofs.lemmas.Grind.{common_steps}
@@ -45,6 +45,10 @@ reverse_end xs ys w e = ap reverse e ∙ grind (arith, common_steps)
 pub drop_none : (n : ℕ) → drop n (let ws : List Word = [] in ws) ≡ []
 drop_none zero = refl
 drop_none (suc n) = refl
+
+-- tokens that are taken leave no more
+pub passes_short : (n : ℕ) (level level2 : Level) (most : ℕ) → Passes n level level2 → length level.rest.now ≤ most → length level2.rest.now ≤ most
+passes_short n level level2 most p h = let e : length level2.rest.now ≡ length level.rest.now - (n - length level.work) = ap length p.rest ∙ length-drop (n - length level.work) level.rest.now in omega arith
 
 module _ (rules : Rules) where
   -- what is to be done goes by the macros alone

@@ -45,6 +45,11 @@ abbrev pub Closed : List Frame → List Word → Type 0
 Closed [] rest = Unit {0}
 Closed (f ∷ fs) rest = (rest ≡ []) × Closed fs f.rest
 
+-- no more than so many tokens follow any of them
+abbrev pub Short : ℕ → List Frame → Type 0
+Short n [] = Unit {0}
+Short n (f ∷ fs) = (length f.rest ≤ n) × Short n fs
+
 module _ (rules : Rules) where
   abbrev pub at_level : List Frame → Level → List Word → List Word → List Note → Type 0
   at_level fs level = working rules fs (reverse level.work) level.rest.now level.out

@@ -1,6 +1,7 @@
 -- Tokens in work as the code keeps them.
 use Rattle.std.specs.Prelude.{◌≡◌, ℕ, ◌-◌, ◌+◌, List, [], ◌∷◌, ◌++◌, reverse, length, drop, take, Option, Some, None, Bool, ◌≤◌, ◌==◌, ◌||◌, ◌&&◌}
-use Rattle.std.specs.List.{find}
+use Rattle.cl_macro.specs.declared.table.MacroTable.{MacroTable}
+use Rattle.cl_macro.specs.Table.{macro_of}
 use Rattle.cl_base.specs.declared.macros.Macro.{Macro}
 use Rattle.cl_base.specs.declared.token.Kind.{Kind}
 use Rattle.cl_base.specs.declared.token.Span.{Span}
@@ -36,11 +37,11 @@ pub record Passes (n : ℕ) (old new : Level) : Type 0 where
   pub rest : new.rest.now ≡ drop (n - length old.work) old.rest.now
 
 -- the macro of a name
-abbrev pub lookup : List Macro → List ℕ → Option Macro
-lookup macros name = find (λ m. same m.name name) macros
+abbrev pub lookup : MacroTable → List ℕ → Option Macro
+lookup table name = macro_of table name
 
 -- the rules of each place of a file with this text, whose path is this string literal
-abbrev pub rules_of : List Macro → (List ℕ → Option Kind) → List ℕ → List ℕ → Span → Rules
+abbrev pub rules_of : MacroTable → (List ℕ → Option Kind) → List ℕ → List ℕ → Span → Rules
 rules_of macros one_token file text at = record {
   macros = lookup macros;
   one_token = one_token;
@@ -70,6 +71,11 @@ Takes (Some params) n = 2 ≤ n
 abbrev pub Fitting : Doing → Type 0
 Fitting (doing.Invokes m n) = Takes m.now.params n
 Fitting _ = Unit {0}
+
+-- the tokens that an invocation takes are there
+abbrev pub IsThere : Level → Option Invoked → Type 0
+IsThere level None = Unit {0}
+IsThere level (Some found) = (found.count ≤ length (ahead level)) × Takes found.mac.now.params found.count
 
 module _ (rules : Rules) where
   -- from one level and list of notes it has gone on to another, where these tokens stand before those that are in work

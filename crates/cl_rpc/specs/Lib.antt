@@ -1,3 +1,4 @@
+pub mod Classes
 pub mod Lossy
 pub mod Messages
 pub mod Replies

@@ -1,9 +1,9 @@
 -- What a body is: JSON-RPC 2.0, sections 4 and 5, with the methods of LSP 3.17 that are known.
-use Rattle.std.specs.Prelude.{ℕ, ℤ, negsuc, ◌&&◌, nat_eq, List, Bool, true, false, if◌then◌else◌, Option, Some, None, codes, option_map, option_and_then, is_some}
+use Rattle.std.specs.Prelude.{ℕ, ℤ, negsuc, ◌&&◌, nat_eq, nat_lt, List, [], ◌++◌, Bool, true, false, if◌then◌else◌, Option, Some, None, codes, option_map, option_and_then, option_to_list, is_some}
 use Rattle.std.specs.Str.{is_utf8, bytes_eq}
 use Rattle.std.specs.List.{starts_with}
 use Rattle.serde_json.specs.Data.{Data, null, boolean, number, string, array, object, Items, no_items, item}
-use Rattle.serde_json.specs.Find.{get, as_str, as_number, as_i64, as_array, as_object}
+use Rattle.serde_json.specs.Find.{get, as_str, as_number, as_i64, as_u64, as_array, as_object}
 use Rattle.serde_json.specs.Read.{read}
 use Rattle.cl_rpc.specs.declared.id.Id.{Id}
 use Rattle.cl_rpc.specs.declared.id.Id.TheVariants as id
@@ -102,6 +102,37 @@ symbols None = call.BadParams false
 abbrev pub cancelled_in : Data → Option Id
 cancelled_in d = option_and_then id_in (params_in d)
 
+-- the number of a kind of change: created, changed or deleted (LSP 3.17, FileChangeType)
+abbrev pub is_kind_of_change : Option ℕ → Bool
+is_kind_of_change None = false
+is_kind_of_change (Some n) = nat_lt 0 n && nat_lt n 4
+
+abbrev pub kind_in : Data → Option ℕ
+kind_in d = option_and_then as_u64 (option_and_then as_number (get (codes "type") d))
+
+-- the file that a watched change names
+abbrev pub file_in : Data → Option (List ℕ)
+file_in d = if is_kind_of_change (kind_in d) then option_and_then (only_if is_file_uri) (text_in (codes "uri") d) else None
+
+abbrev pub watched_in : Data → Option Items
+watched_in d = option_and_then as_array (option_and_then (get (codes "changes")) (params_in d))
+
+abbrev pub each_names_a_file : Items → Bool
+each_names_a_file no_items = true
+each_names_a_file (item d ds) = is_some (file_in d) && each_names_a_file ds
+
+-- the files that watched changes name, in order
+abbrev pub files_in : Items → List (List ℕ)
+files_in no_items = []
+files_in (item d ds) = option_to_list (file_in d) ++ files_in ds
+
+abbrev pub watched_paths : Items → Option (List (List ℕ))
+watched_paths ds = if each_names_a_file ds then Some (files_in ds) else None
+
+abbrev pub watched : Option (List (List ℕ)) → Call
+watched (Some paths) = call.Watched paths
+watched None = call.BadParams false
+
 abbrev pub cancel : Option Id → Call
 cancel (Some i) = call.Cancel i
 cancel None = call.BadParams false
@@ -124,8 +155,9 @@ method_named name =
     else (if bytes_eq name (codes "textDocument/didChange") then method.DidChange
     else (if bytes_eq name (codes "textDocument/didClose") then method.DidClose
     else (if bytes_eq name (codes "$/cancelRequest") then method.Cancel
+    else (if bytes_eq name (codes "workspace/didChangeWatchedFiles") then method.Watched
     else (if bytes_eq name (codes "textDocument/documentSymbol") then method.Symbols
-    else method.Other)))))))
+    else method.Other))))))))
 
 -- a request of a method, by the whole message
 abbrev pub request_call : Method → Data → Call
@@ -137,6 +169,7 @@ request_call method.DidOpen d = call.Unknown
 request_call method.DidChange d = call.Unknown
 request_call method.DidClose d = call.Unknown
 request_call method.Cancel d = call.Unknown
+request_call method.Watched d = call.Unknown
 request_call method.Other d = call.Unknown
 
 -- a notification of a method, where it is a notification's
@@ -146,6 +179,7 @@ notified_call method.DidOpen d = Some (opened (uri_in d) (version_in d) (opened_
 notified_call method.DidChange d = Some (changed (uri_in d) (version_in d) (option_and_then changed_text (changes_in d)))
 notified_call method.DidClose d = Some (closed (uri_in d))
 notified_call method.Cancel d = Some (cancel (cancelled_in d))
+notified_call method.Watched d = Some (watched (option_and_then watched_paths (watched_in d)))
 notified_call method.Initialize d = None
 notified_call method.Shutdown d = None
 notified_call method.Symbols d = None

@@ -1,5 +1,5 @@
 use crate::id::Id;
-use cl_base::{Path, Text};
+use cl_base::{List, Path, Text};
 
 /// What a request or a notification asks for (LSP 3.17). A `Path` holds the text of a document's URI.
 #[derive(Drop)]
@@ -19,6 +19,9 @@ pub enum Call {
     DidClose(Path),
     /// The request of this id is no longer wanted.
     Cancel(Id),
+    /// The files of these URIs changed on disk, in the order of the message
+    /// (workspace/didChangeWatchedFiles).
+    Watched(List<Path>),
     /// The request for the symbols of the document of this URI.
     Symbols(Path),
     /// A request of another method.

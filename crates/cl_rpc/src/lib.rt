@@ -2,6 +2,7 @@
 #![tactic(auto)]
 
 mod call;
+mod class;
 mod id;
 mod json;
 mod lossy;
@@ -10,12 +11,14 @@ mod message_call;
 mod message_changes;
 mod message_method;
 mod message_params;
+mod message_watched;
 mod out;
 mod reply;
 mod reply_symbols;
 mod reply_value;
 
 pub use call::{Call, Parsed};
+pub use class::Class;
 pub use id::Id;
 pub use message::message_of;
 pub use out::{How, Out, Reply};

@@ -1,11 +1,12 @@
 ghost use Rattle.std.specs.Prelude.{◌≡◌, IfOk, option_and_then};
 ghost use Rattle.serde_json.specs.View.{view};
-ghost use Rattle.cl_rpc.specs.Messages.{opened, changed, closed, cancel, symbols, uri_in, version_in, opened_text_in, cancelled_in, changes_in, changed_text, request_call, notified_call, notified as notified_parsed};
+ghost use Rattle.cl_rpc.specs.Messages.{opened, changed, closed, cancel, symbols, uri_in, version_in, opened_text_in, cancelled_in, changes_in, changed_text, watched as watched_call, watched_paths, watched_in, request_call, notified_call, notified as notified_parsed};
 
 use crate::call::{Call, Parsed};
 use crate::message_changes::changed_text_at;
 use crate::message_method::Method;
 use crate::message_params::{cancelled_at, has_params_object, opened_text_at, uri_at, version_at};
+use crate::message_watched::watched_paths_at;
 use cl_base::{Mem, Path, Text};
 use serde_json::Value;
 use std::alloc::Global;
@@ -32,6 +33,7 @@ pub fn request_call(alloc: Global, method: Method, value: &Value) -> Mem<Call>
         | Method::DidChange
         | Method::DidClose
         | Method::Cancel
+        | Method::Watched
         | Method::Other => Ok(Call::Unknown),
     }
 }
@@ -46,6 +48,7 @@ pub fn notified(alloc: Global, method: Method, value: &Value) -> Mem<Parsed>
         Method::DidChange => change_call(alloc, value)?,
         Method::DidClose => close_call(alloc, value)?,
         Method::Cancel => cancel_call(alloc, value)?,
+        Method::Watched => watched_call(alloc, value)?,
         Method::Initialize | Method::Shutdown | Method::Symbols | Method::Other => {
             return Ok(Parsed::Ignored);
         }
@@ -111,6 +114,15 @@ fn cancel_call(alloc: Global, value: &Value) -> Mem<Call>
 {
     match cancelled_at(alloc, value)? {
         Some(id) => Ok(Call::Cancel(id)),
+        None => Ok(Call::BadParams(false)),
+    }
+}
+
+fn watched_call(alloc: Global, value: &Value) -> Mem<Call>
+    ensures { IfOk result (λ call. call ≡ watched_call (option_and_then watched_paths (watched_in (view value.now)))) }
+{
+    match watched_paths_at(alloc, value)? {
+        Some(paths) => Ok(Call::Watched(paths)),
         None => Ok(Call::BadParams(false)),
     }
 }

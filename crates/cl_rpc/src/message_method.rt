@@ -11,6 +11,7 @@ pub enum Method {
     DidChange,
     DidClose,
     Cancel,
+    Watched,
     Symbols,
     Other,
 }
@@ -33,6 +34,8 @@ pub fn method_of(name: &str) -> Method
         Method::DidClose
     } else if name == "$/cancelRequest" {
         Method::Cancel
+    } else if name == "workspace/didChangeWatchedFiles" {
+        Method::Watched
     } else if name == "textDocument/documentSymbol" {
         Method::Symbols
     } else {

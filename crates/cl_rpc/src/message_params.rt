@@ -64,7 +64,7 @@ pub fn uri_at(value: &Value) -> Option<&str>
 }
 
 /// Whether a URI is that of a file.
-fn is_file_uri(uri: &str) -> bool
+pub fn is_file_uri(uri: &str) -> bool
     ensures { result ≡ is_file_uri uri.now }
 {
     uri.as_bytes().starts_with(b"file:///".as_slice())

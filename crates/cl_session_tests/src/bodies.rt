@@ -1,4 +1,4 @@
-use cl_base::{Mem, Text};
+use cl_base::{Mem, Path, Text};
 use cl_rpc::{Call, Id, Parsed, message_of};
 use std::alloc::Global;
 use std::test::Fail;
@@ -85,10 +85,20 @@ fn call_told(alloc: Global, call: &Call) -> Mem<String> {
             let id = id_told(alloc, id)?;
             Ok(format!(in alloc; "cancel {id}")?)
         }
+        Call::Watched(paths) => watched_told(alloc, paths.as_slice()),
         Call::Symbols(path) => Ok(format!(in alloc; "symbols {}", path.text())?),
         Call::Unknown => Ok(String::from_str(alloc, "unknown")?),
         Call::BadParams(first) => Ok(format!(in alloc; "bad {first}")?),
     }
+}
+
+fn watched_told(alloc: Global, paths: &[Path]) -> Mem<String> {
+    let mut told = String::from_str(alloc, "watched")?;
+    for path in paths {
+        told.push_str(" ")?;
+        told.push_str(path.text())?;
+    }
+    Ok(told)
 }
 
 fn id_told(alloc: Global, id: &Id) -> Mem<String> {
@@ -169,6 +179,11 @@ fn table() -> &'static str {
 {"jsonrpc":"2.0","method":"textDocument/didChange","params":{"textDocument":{"uri":"file:///a.c"},"contentChanges":[]}} => notification bad false
 {"jsonrpc":"2.0","method":"textDocument/didClose","params":{"textDocument":{"uri":"file:///a.c"}}} => notification close file:///a.c
 {"jsonrpc":"2.0","method":"textDocument/didClose","params":{}} => notification bad false
+{"jsonrpc":"2.0","method":"workspace/didChangeWatchedFiles","params":{"changes":[{"uri":"file:///a.h","type":1},{"uri":"file:///b.h","type":3}]}} => notification watched file:///a.h file:///b.h
+{"jsonrpc":"2.0","method":"workspace/didChangeWatchedFiles","params":{"changes":[]}} => notification watched
+{"jsonrpc":"2.0","method":"workspace/didChangeWatchedFiles","params":{"changes":[{"uri":"file:///a.h","type":4}]}} => notification bad false
+{"jsonrpc":"2.0","method":"workspace/didChangeWatchedFiles","params":{"changes":[{"uri":"file:///a.h","type":1},{"uri":"b.h","type":1}]}} => notification bad false
+{"jsonrpc":"2.0","id":3,"method":"workspace/didChangeWatchedFiles","params":{"changes":[]}} => request 3 unknown
 {"jsonrpc":"2.0","method":"$/cancelRequest","params":{"id":4}} => notification cancel 4
 {"jsonrpc":"2.0","method":"$/cancelRequest","params":{"id":"d"}} => notification cancel 'd'
 {"jsonrpc":"2.0","method":"$/cancelRequest","params":{"id":null}} => notification bad false

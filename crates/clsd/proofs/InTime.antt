@@ -32,6 +32,7 @@ mild_request n None call.Exit = tt
 mild_request n None (call.DidOpen path version text) = tt
 mild_request n None (call.DidChange path version text) = tt
 mild_request n None (call.DidClose path) = tt
+mild_request n None (call.Watched paths) = tt
 mild_request n None (call.Cancel i) = tt
 mild_request n None (call.Symbols path) = tt
 mild_request n None call.Unknown = tt
@@ -52,6 +53,7 @@ mild_notice messages past (call.DidChange path version None) none = tt
 mild_notice messages past (call.DidChange path version (Some text)) none =
     mild_if (is_some (text_at messages past path)) _ (none_ended how.Modified (λ n. asks_on path (said messages n)) (pending messages past) none)
 mild_notice messages past (call.DidClose path) none = tt
+mild_notice messages past (call.Watched paths) none = tt
 mild_notice messages past (call.Cancel i) none = none_ended how.Cancelled (λ n. asks_by i (said messages n)) (pending messages past) none
 mild_notice messages past (call.Symbols path) none = tt
 mild_notice messages past call.Unknown none = tt

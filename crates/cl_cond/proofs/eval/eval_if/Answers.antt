@@ -1,6 +1,6 @@
 use Rattle.std.proofs.Common.{◌≡◌, Bool, Some, ap, sym, ◌∙◌, arith, get_or}
 use Rattle.cl_cond.specs.declared.word.Class.{Class}
-use Rattle.cl_cond.specs.Machine.{said, state_of, step}
+use Rattle.cl_cond.specs.code.Machine.{said, state_of, step}
 use Rattle.cl_cond.specs.Words.{class_of}
 use Rattle.cl_cond.proofs.Deciding.{misfit, at_end, goes_more}
 use Rattle.cl_cond.proofs.eval.eval_if.Goals as goal

@@ -1,5 +1,5 @@
 use Rattle.std.proofs.Common.{◌≡◌, ◌≤◌, ◌-◌, [], Some, take, length}
-use Rattle.cl_cond.specs.Machine.{state_of, waiting}
+use Rattle.cl_cond.specs.code.Machine.{state_of, waiting}
 use Rattle.cl_cond.specs.Words.{words_from}
 use Rattle.cl_cond.proofs.Running.{go}
 use Rattle.cl_cond.proofs.eval.eval_if.Given as goal

@@ -1,7 +1,7 @@
 use Rattle.std.proofs.Common.{◌≡◌, ◌++◌, [], drop}
 use Rattle.std.specs.Prelude.{reverse}
 use Rattle.cl_cond.specs.Sections.{faults_of, kept, parts}
-use Rattle.cl_cond.specs.Nesting.{ends_of, sections}
+use Rattle.cl_cond.specs.code.Nesting.{ends_of, sections}
 use Rattle.cl_cond.proofs.Following.{past}
 use Rattle.cl_cond.proofs.group.group_lines.Given as goal
 

@@ -1,7 +1,7 @@
 use Rattle.std.proofs.Common.{List, ap, ◌∙◌, sym}
 use Rattle.std.specs.Prelude.{reverse}
 use Rattle.cl_cond.specs.declared.machine.Frame.{Frame}
-use Rattle.cl_cond.specs.Machine.{reduce}
+use Rattle.cl_cond.specs.code.Machine.{reduce}
 use Rattle.cl_cond.proofs.Reducing.{reduce_loose, reduce_tight}
 use Rattle.cl_cond.proofs.machine.reduced.Goals as goal
 

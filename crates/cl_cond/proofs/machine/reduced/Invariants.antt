@@ -1,6 +1,6 @@
 use Rattle.std.proofs.Common.{◌≡◌, length}
 use Rattle.std.specs.Prelude.{reverse}
-use Rattle.cl_cond.specs.Machine.{reduce}
+use Rattle.cl_cond.specs.code.Machine.{reduce}
 use Rattle.cl_cond.proofs.machine.reduced.Given as goal
 
 abbrev pub invariant-loop-frame : goal.invariant-loop-frame

@@ -1,7 +1,7 @@
 use Rattle.std.proofs.Common.{◌≡◌, ◌≤◌, ◌+◌, ℕ, drop, length, nat_lt}
 use Rattle.std.specs.Prelude.{reverse}
 use Rattle.cl_cond.specs.Sections.{has_end, parts}
-use Rattle.cl_cond.specs.Nesting.{ends_of}
+use Rattle.cl_cond.specs.code.Nesting.{ends_of}
 use Rattle.cl_cond.proofs.nesting.ends.Given as goal
 
 abbrev pub invariant-loop-at : goal.invariant-loop-at

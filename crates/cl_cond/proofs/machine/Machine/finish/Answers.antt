@@ -1,6 +1,6 @@
 use Rattle.std.proofs.Common.{sym, ◌∙◌}
 use Rattle.std.proofs.lemmas.Bool.{false≢true}
-use Rattle.cl_cond.specs.Machine.{state_of}
+use Rattle.cl_cond.specs.code.Machine.{state_of}
 use Rattle.cl_cond.proofs.Reducing.{finish_none}
 use Rattle.cl_cond.proofs.machine.Machine.finish.Goals as goal
 

@@ -1,0 +1,77 @@
+//! What every text of a session is read with.
+
+ghost use Rattle.std.specs.Prelude.{◌≡◌, ◌↔◌, IsTrue, IfOk, List, ℕ};
+ghost use Rattle.cl_base.specs.declared.config.Define.{Define};
+
+use crate::duplicate::Duplicate;
+use crate::list::List;
+use crate::memory::Mem;
+use crate::name::Name;
+use crate::path::Path;
+use crate::text::Text;
+use std::alloc::Global;
+use std::marker::Model;
+use std::sync::Arc;
+
+/// A macro that is defined before a text begins: its name, and its replacement list as text.
+#[derive(Debug, Drop)]
+pub struct Define {
+    pub name: Name,
+    pub text: Text,
+}
+
+/// What a config says: the folders in which headers are looked for, in order, and the macros that are defined, in order.
+#[derive(Debug, Drop)]
+pub struct Settings {
+    pub includes: List<Path>,
+    pub defines: List<Define>,
+}
+
+/// The settings of a session. Copies share them: `duplicate` costs one count, however many there are.
+#[derive(Debug, Drop)]
+pub struct Config {
+    settings: Arc<Settings, Global>,
+}
+
+impl Model for Config {
+    ghost use Rattle.cl_base.specs.declared.config.Settings.{Settings};
+    ghost use Rattle.cl_base.specs.contracts.config.Settings.{the_row as settings_row};
+
+    ghost Value = { Settings };
+
+    ghost coded = { settings_row.coded };
+
+    ghost view = { λ it. it.settings.value };
+}
+
+impl Config {
+    /// A config of these folders and these macros.
+    pub fn new(alloc: Global, includes: List<Path>, defines: List<Define>) -> Mem<Config>
+        ensures includes { IfOk result (λ config. config.includes ≡ includes) }
+        ensures defines { IfOk result (λ config. config.defines ≡ defines) }
+    {
+        let settings = Arc::new(alloc, Settings { includes, defines })?;
+        Ok(Config { settings })
+    }
+
+    /// The folders in which headers are looked for, in order.
+    pub fn includes(&self) -> &List<Path>
+        ensures { result.now ≡ self.now.includes }
+    {
+        &self.settings.includes
+    }
+
+    /// The macros that are defined before a text begins, in order.
+    pub fn defines(&self) -> &List<Define>
+        ensures { result.now ≡ self.now.defines }
+    {
+        &self.settings.defines
+    }
+}
+
+impl Duplicate for Config {
+    fn duplicate(&self, _alloc: Global) -> Mem<Config> {
+        let settings = self.settings.clone()?;
+        Ok(Config { settings })
+    }
+}

@@ -1,0 +1,36 @@
+-- The characters of a constant, one after the other.
+use Rattle.std.proofs.Common.{◌≡◌, ℕ, zero, suc, ◌-◌, ◌<◌, ◌≤◌, Bool, ◌&&◌, List, [], ◌∷◌, refl, sym, ap, ◌∙◌, arith, length, take, drop, ⊎_elim}
+use Rattle.std.specs.Prelude.{min}
+use Rattle.std.proofs.lemmas.Bool.{cases_lt}
+use Rattle.std.proofs.lemmas.List.{drop_all, take_min}
+use Rattle.cl_const.specs.declared.char_type.CharType.{CharType}
+use Rattle.cl_const.specs.Characters.{are_chars, char_len, code_of, stands}
+
+-- those that belong to what is before are passed
+passed : (t : CharType) (n : ℕ) (bs : List ℕ) → are_chars t n bs ≡ are_chars t 0 (drop n bs)
+passed t zero [] = refl
+passed t zero (b ∷ bs) = refl
+passed t (suc n) [] = refl
+passed t (suc n) (b ∷ bs) = passed t n bs
+
+drop_most : (n : ℕ) (bs : List ℕ) → drop n bs ≡ drop (min n (length bs)) bs
+drop_most n bs =
+    ⊎_elim
+    (λ (h : n < length bs). let e : n ≡ min n (length bs) = omega arith in ap (λ (k : ℕ). drop k bs) e)
+    (λ (h : length bs ≤ n). drop_all n bs h ∙ sym (drop_all (min n (length bs)) bs (omega arith)))
+    (cases_lt n (length bs))
+
+drop_one : (n : ℕ) (b : ℕ) (bs : List ℕ) → 0 < n → drop (n - 1) bs ≡ drop n (b ∷ bs)
+drop_one zero b bs h = absurd (omega arith)
+drop_one (suc n) b bs h = ap (λ (k : ℕ). drop k bs) (omega arith)
+
+-- one character, and those after it
+pub one_more : (t : CharType) (bs front left : List ℕ) (n k : ℕ) → 0 < length bs → 0 < n → n ≡ char_len bs → k ≡ min n (length bs) → front ≡ take k bs → left ≡ drop k bs
+    → are_chars t 0 bs ≡ (stands t (code_of front) && are_chars t 0 left)
+one_more t [] front left n m h k e i f g = absurd (omega arith)
+one_more t (b ∷ bs) front left n m h k e i f g =
+    let some : 0 < char_len (b ∷ bs) = omega arith in
+    let here : take (char_len (b ∷ bs)) (b ∷ bs) ≡ front = ap (λ (m : ℕ). take m (b ∷ bs)) (sym e) ∙ sym (take_min n (b ∷ bs)) ∙ ap (λ (j : ℕ). take j (b ∷ bs)) (sym i) ∙ sym f in
+    let rest : drop (char_len (b ∷ bs) - 1) bs ≡ left = drop_one (char_len (b ∷ bs)) b bs some ∙ ap (λ (m : ℕ). drop m (b ∷ bs)) (sym e) ∙ drop_most n (b ∷ bs) ∙ ap (λ (j : ℕ). drop j (b ∷ bs)) (sym i) ∙ sym g in
+    ap (λ (c : List ℕ). stands t (code_of c) && are_chars t (char_len (b ∷ bs) - 1) bs) here
+    ∙ ap (λ (x : Bool). stands t (code_of front) && x) (passed t (char_len (b ∷ bs) - 1) bs ∙ ap (are_chars t 0) rest)

@@ -1,0 +1,5 @@
+pub mod Numbers
+pub mod Operators
+pub mod Integers
+pub mod Utf8
+pub mod Characters
