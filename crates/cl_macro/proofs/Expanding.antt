@@ -14,8 +14,21 @@ use Rattle.std.proofs.Common.{Bor}
 use Rattle.cl_macro.specs.declared.level.Level.{Level}
 use Rattle.cl_macro.specs.declared.turn.Doing.{Doing}
 use Rattle.cl_macro.specs.declared.turn.Doing.TheVariants as doing
-use Rattle.cl_macro.specs.Levels.{ahead, turned, Passes}
+use Rattle.cl_macro.specs.Levels.{ahead, turned, Passes, Within}
 use Rattle.cl_macro.proofs.Standing.{looks_zero, stay_zero, replacements_more, taken_length}
+
+-- what is invoked takes what it takes
+pub same_taken : (m n : Macro) (x y : List Word) → Invokes m x ≡ Invokes n y → x ≡ y
+same_taken m n x y e = cc
+
+pub not_stays : (m : Macro) (x : List Word) → Invokes m x ≡ Stays → ⊥
+not_stays m x e = cc
+
+pub not_misfits : (m : Macro) (x y : List Word) → Invokes m x ≡ Misfits y → ⊥
+not_misfits m x y e = cc
+
+pub not_open : (m : Macro) (x : List Word) → Invokes m x ≡ Open → ⊥
+not_open m x e = cc
 
 module _ (rules : Rules) where
   pub left_short : {work rest out left : List Word} {ns : List Note} → Works rules work rest out left ns → length left ≤ length rest
@@ -28,7 +41,7 @@ module _ (rules : Rules) where
   left_short (open_ended w work rest t) = omega arith
 
   -- a token that isn't invoked makes no replacement
-  not_large : (w : Word) (rest : List Word) → ((out left : List Word) (ns : List Note) → Works rules (w ∷ []) rest out left ns → 65535 < replacements ns)
+  pub not_large : (w : Word) (rest : List Word) → ((out left : List Word) (ns : List Note) → Works rules (w ∷ []) rest out left ns → 65535 < replacements ns)
       → (t : Turn) → turn rules.macros w rest ≡ t → (m : Macro) × (behind : List Word) × (turn rules.macros w rest ≡ Invokes m behind)
   not_large w rest k Stays e = let h = k _ _ _ (stays w [] rest [] rest [] e (done rest)) in
       let z = looks_zero w in let a = replacements_more (looks w) [] in absurd (omega arith)
@@ -42,34 +55,26 @@ module _ (rules : Rules) where
   not_large w rest k Open e = let h = k _ _ _ (open_ended w [] rest e) in
       let z = stay_zero 20 w rest in absurd (omega arith)
 
-  pub never_else : (w : Word) (rest : List Word) → ((out left : List Word) (ns : List Note) → Works rules (w ∷ []) rest out left ns → 65535 < replacements ns)
-      → (d : Doing) (ws : List Word) → turn rules.macros w rest ≡ turned d ws → ((x : Bor Macro) (n : ℕ) → d ≡ doing.Invokes x n → ⊥) → ⊥
-  never_else w rest k doing.Stays ws e n = let p = not_large w rest k Stays e in two_turns _ p.0 p.1 Stays p.2 e refl
-    where
-      is_invokes : Turn → List Word
-      is_invokes Stays = []
-      is_invokes (Invokes m b) = b
-      is_invokes (Misfits b) = b
-      is_invokes Open = []
-      two_turns : (t : Turn) (m : Macro) (b : List Word) (u : Turn) → t ≡ Invokes m b → t ≡ u → u ≡ Stays → ⊥
-      two_turns t m b u x y z = cc
-  never_else w rest k (doing.Invokes m c) ws e n = n m c refl
-  never_else w rest k (doing.Misfits c) ws e n = let p = not_large w rest k (Misfits (take c ws)) e in two _ p.0 p.1 _ p.2 e
-    where
-      two : (t : Turn) (m : Macro) (b c : List Word) → t ≡ Invokes m b → t ≡ Misfits c → ⊥
-      two t m b c x y = cc
-  never_else w rest k doing.Open ws e n = let p = not_large w rest k Open e in two _ p.0 p.1 p.2 e
-    where
-      two : (t : Turn) (m : Macro) (b : List Word) → t ≡ Invokes m b → t ≡ Open → ⊥
-      two t m b x y = cc
+  -- what stands in a text does so where some of it is taken
+  pub within_drop : (text : List ℕ) (n : ℕ) (ws : List Word) → Within text ws → Within text (drop n ws)
+  within_drop text zero ws h = h
+  within_drop text (suc n) [] h = h
+  within_drop text (suc n) (w ∷ ws) h = within_drop text n ws h.1
+
+  pub left_within : (text : List ℕ) {work rest out left : List Word} {ns : List Note} → Works rules work rest out left ns → Within text rest → Within text left
+  left_within text (done rest) h = h
+  left_within text (stays w work rest out left ns t d) h = left_within text d h
+  left_within text (invokes w work rest m behind full inner out left ns t a d) h = left_within text d (within_drop text (length behind - length work) rest h)
+  left_within text (misfits w work rest behind out left ns t d) h = left_within text d (within_drop text (length behind - length work) rest h)
+  left_within text (open_ended w work rest t) h = tt
 
 module _ (rules_at : Span → Rules) where
   -- what has come of a run so far, where these tokens are left
   pub record Gone (run : List Word) (words : List Word) (ts : List Told) (rest : List Word) : Type 0 where
     pub goes : (more : List Word) (later : List Told) → Expands rules_at (length words) rest more later → Expands rules_at 0 run (words ++ more) (ts ++ later)
 
-  pub gone_none : (run : List Word) → Gone run [] [] run
-  gone_none run = record { goes = λ more later g. g }
+  pub gone_none : (run words : List Word) (ts : List Told) → words ≡ [] → ts ≡ [] → Gone run words ts run
+  gone_none run words ts e f = subst (λ (ws : List Word). Gone run ws ts run) (sym e) (subst (λ (t : List Told). Gone run [] t run) (sym f) (record { goes = λ more later g. g }))
 
   join : {A : Type 0} (xs ys more all : List A) → all ≡ xs ++ ys → xs ++ (ys ++ more) ≡ all ++ more
   join xs ys more all e = sym (append_assoc xs ys more) ∙ ap (λ zs. zs ++ more) (sym e)
@@ -89,10 +94,10 @@ module _ (rules_at : Span → Rules) where
     goes = λ more later g.
         let n : length words2 ≡ length words + length out = ap length ew ∙ append_length words (settled w ns out) ∙ ap (λ j. length words + j) (settled_length (span_of w ns) out) in
         let h = k.goes (settled w ns out ++ more) (all_told (length words) (span_of w ns) ns ++ later)
-            (subst (λ (r : List Word). Expands rules_at (length words) r (settled w ns out ++ more) (all_told (length words) (span_of w ns) ns ++ later)) (sym e)
-              (whole (length words) w behind out left more ns later d s (subst (λ (j : ℕ). Expands rules_at j left more later) n g))) in
+        (subst (λ (r : List Word). Expands rules_at (length words) r (settled w ns out ++ more) (all_told (length words) (span_of w ns) ns ++ later)) (sym e)
+        (whole (length words) w behind out left more ns later d s (subst (λ (j : ℕ). Expands rules_at j left more later) n g))) in
         subst (λ (t : List Told). Expands rules_at 0 run (words2 ++ more) t) (join ts _ later ts2 et)
-        (subst (λ (ws : List Word). Expands rules_at 0 run ws (ts ++ (all_told (length words) (span_of w ns) ns ++ later))) (join words _ more words2 ew) h)
+        (subst (λ (ws : List Word). Expands rules_at 0 run ws (ts ++ (all_told (length words) (span_of w ns) ns ++ later))) (join words _ more words2 ew) h);
   }
 
   pub gone_large : (run rest words : List Word) (ts : List Told) (w : Word) (m : Macro) (behind taken left words2 : List Word) (ts2 : List Told)
@@ -105,28 +110,28 @@ module _ (rules_at : Span → Rules) where
         let n : length words2 ≡ length words + length (w ∷ taken) = ap length ew ∙ append_length words (w ∷ taken) in
         let ns = all_told (length words) w.token.at (stay_notes 17 w taken) in
         let h = k.goes (w ∷ (taken ++ more)) (ns ++ later)
-            (subst (λ (r : List Word). Expands rules_at (length words) r (w ∷ (taken ++ more)) (ns ++ later)) (sym e)
-              (large (length words) w behind taken m more later t big
-                (subst (λ (l : List Word). Expands rules_at (length words + length (w ∷ taken)) l more later) el (subst (λ (j : ℕ). Expands rules_at j left more later) n g)))) in
+        (subst (λ (r : List Word). Expands rules_at (length words) r (w ∷ (taken ++ more)) (ns ++ later)) (sym e)
+        (large (length words) w behind taken m more later t big
+        (subst (λ (l : List Word). Expands rules_at (length words + length (w ∷ taken)) l more later) el (subst (λ (j : ℕ). Expands rules_at j left more later) n g)))) in
         subst (λ (t : List Told). Expands rules_at 0 run (words2 ++ more) t) (join ts _ later ts2 et)
-        (subst (λ (ws : List Word). Expands rules_at 0 run ws (ts ++ (ns ++ later))) (join words (w ∷ taken) more words2 ew) h)
+        (subst (λ (ws : List Word). Expands rules_at 0 run ws (ts ++ (ns ++ later))) (join words (w ∷ taken) more words2 ew) h);
   }
 
   -- the tokens of an invocation that is too large
-  pub gone_stay : (run rest words : List Word) (ts : List Told) (first w : Word) (m : Macro) (behind : List Word) (count : ℕ) (level level2 : Level) (words2 : List Word) (notes : List Note) (ts2 : List Told)
+  pub gone_stay : (run rest words : List Word) (ts : List Told) (first w : Word) (m : Macro) (behind taken : List Word) (count : ℕ) (level level2 : Level) (words2 : List Word) (notes : List Note) (ts2 : List Told)
       → Gone run words ts rest
       → rest ≡ first ∷ behind → w ≡ first → level.work ≡ [] → level.rest.now ≡ behind → level.out ≡ []
-      → turn (rules_at first.token.at).macros first (ahead level) ≡ Invokes m (take count (ahead level)) → count ≤ length (ahead level)
+      → turn (rules_at first.token.at).macros first behind ≡ Invokes m taken → taken ≡ take count (ahead level) → count ≤ length (ahead level)
       → ((out left : List Word) (ns : List Note) → Works (rules_at first.token.at) (first ∷ []) behind out left ns → 65535 < replacements ns)
       → Passes count level level2 → level2.out ≡ level.out ++ w ∷ take count (ahead level) → words2 ≡ words ++ level2.out
       → notes ≡ [] ++ stay_notes 17 w (take count (ahead level)) → ts2 ≡ ts ++ all_told (length words) first.token.at notes
       → Gone run words2 ts2 level2.rest.now
-  gone_stay run rest words ts first w m behind count level level2 words2 notes ts2 k e ew lw lr lo t h big p eo es en et =
+  gone_stay run rest words ts first w m behind taken count level level2 words2 notes ts2 k e ew lw lr lo t tt2 h big p eo es en et =
       let a : ahead level ≡ behind = (λ i. reverse (lw i) ++ lr i) in
       let tk : take count (ahead level) ≡ take count behind = ap (take count) a in
       let lc : length (take count behind) ≡ count = taken_length (rules_at first.token.at) count behind (subst (λ (ws : List Word). count ≤ length ws) a h) in
       gone_large run rest words ts first m behind (take count behind) level2.rest.now words2 ts2 k e
-      ((ap (turn (rules_at first.token.at).macros first) (sym a) ∙ t) ∙ ap (λ ws. Invokes m ws) tk) big
+      (t ∙ ap (λ ws. Invokes m ws) (tt2 ∙ tk)) big
       (p.rest ∙ (λ i. drop (count - length (lw i)) (lr i)) ∙ ap (λ n. drop n behind) (let z : count - 0 ≡ length (take count behind) = omega arith in z))
       (es ∙ ap (λ ws. words ++ ws) (eo ∙ (λ i. lo i ++ ew i ∷ tk i)))
       (et ∙ ap (λ n. ts ++ all_told (length words) first.token.at n) (en ∙ (λ i. stay_notes 17 (ew i) (tk i))))

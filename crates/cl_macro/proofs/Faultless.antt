@@ -10,7 +10,7 @@ use Rattle.cl_macro.specs.declared.part.Part.{Part}
 use Rattle.cl_macro.specs.declared.part.Part.TheVariants as part
 use Rattle.cl_macro.specs.Rules.{Rules}
 use Rattle.cl_macro.specs.Replacing.{replacements}
-use Rattle.cl_macro.specs.Pasting.{Joined, glue, joins, kept, put, unspaced, joined_body}
+use Rattle.cl_macro.specs.Pasting.{parts_of, Joined, glue, joins, kept, put, unspaced, joined_body}
 use Rattle.cl_macro.specs.Made.{made_notes, whole_body, only, file_word, line_word, is_file, is_line}
 use Rattle.cl_macro.proofs.Joining.{glued_by, joins_due, joins_kept}
 
@@ -36,7 +36,7 @@ if_zero true j k x y = x
 if_zero false j k x y = y
 
 whole_zero : (rules : Rules) (m : Macro) (args full : List (List Word)) → Zero (whole_body rules m args full)
-whole_zero rules m args full = if_zero (is_file m) _ _ refl (if_zero (is_line m) _ _ refl (joins_zero rules.one_token false (part.Marker false) _))
+whole_zero rules m args full = if_zero (is_file m) _ _ refl (if_zero (is_line m) _ _ refl (joins_zero rules.one_token false (part.Marker false) (parts_of m args full false None m.body)))
 
 pub made_zero : (rules : Rules) (m : Macro) (args full : List (List Word)) → replacements (made_notes rules m args full) ≡ 0
 unfolding made_notes

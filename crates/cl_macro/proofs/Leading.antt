@@ -16,14 +16,14 @@ use Rattle.cl_macro.proofs.Walking.{append_nil}
 pub leads_none : (A : List Word → List Word → List Note → Type 0) → Leads A A []
 leads_none A = record {
   on = λ total left ns a. a;
-  back = λ total left ns a. record { more = ns; goes = a; all = refl }
+  back = λ total left ns a. record { more = ns; goes = a; all = refl };
 }
 
 pub leads_then : (A B C : List Word → List Word → List Note → Type 0) (n m : List Note) → Leads A B n → Leads B C m → Leads A C (n ++ m)
 leads_then A B C n m a b = record {
   on = λ total left ns c. subst (λ (k : List Note). A total left k) (sym (append_assoc n m ns)) (a.on total left _ (b.on total left ns c));
   back = λ total left ns d. let p = a.back total left ns d in let q = b.back total left p.more p.goes in
-    record { more = q.more; goes = q.goes; all = p.all ∙ ap (λ xs. n ++ xs) q.all ∙ sym (append_assoc n m q.more) }
+      record { more = q.more; goes = q.goes; all = p.all ∙ ap (λ xs. n ++ xs) q.all ∙ sym (append_assoc n m q.more) };
 }
 
 module _ (rules : Rules) where
@@ -41,30 +41,37 @@ module _ (rules : Rules) where
   unfolding Goes
   leads_walks [] w r f n w2 r2 before a = record {
     on = λ total left ns g. record {
-      out = f ++ g.out; works = a.on g.out left ns g.works; words = g.words ∙ append_assoc before f g.out
+      out = f ++ g.out;
+      works = a.on g.out left ns g.works;
+      words = g.words ∙ append_assoc before f g.out;
     };
     back = λ total left ns g. let c = a.back g.out left ns g.works in record {
       more = c.more;
       goes = record { out = c.later; works = c.works; words = g.words ∙ ap (λ xs. before ++ xs) c.words ∙ sym (append_assoc before f c.later) };
-      all = c.all
-    }
+      all = c.all;
+    };
   }
   leads_walks (h ∷ fs) w r f n w2 r2 before a = record {
     on = λ total left ns g. record {
-      out = f ++ g.out; first = n ++ g.first; later = g.later;
+      out = f ++ g.out;
+      first = n ++ g.first;
+      later = g.later;
       works = a.on g.out [] g.first g.works;
       called = called_along (Goes rules total left fs) h _ _ g.later (append_assoc before f g.out) g.called;
-      all = ap (λ xs. n ++ xs) g.all ∙ sym (append_assoc n g.first g.later)
+      all = ap (λ xs. n ++ xs) g.all ∙ sym (append_assoc n g.first g.later);
     };
     back = λ total left ns g. let c = a.back g.out [] g.first g.works in record {
       more = c.more ++ g.later;
       goes = record {
-        out = c.later; first = c.more; later = g.later; works = c.works;
+        out = c.later;
+        first = c.more;
+        later = g.later;
+        works = c.works;
         called = called_along (Goes rules total left fs) h _ _ g.later (ap (λ xs. before ++ xs) c.words ∙ sym (append_assoc before f c.later)) g.called;
-        all = refl
+        all = refl;
       };
-      all = g.all ∙ ap (λ xs. xs ++ g.later) c.all ∙ append_assoc n c.more g.later
-    }
+      all = g.all ∙ ap (λ xs. xs ++ g.later) c.all ∙ append_assoc n c.more g.later;
+    };
   }
 
   three : (i a b c l : List Note) → i ++ ((a ++ (b ++ c)) ++ l) ≡ (i ++ (a ++ (b ++ c))) ++ l
@@ -79,37 +86,40 @@ module _ (rules : Rules) where
   unfolding Goes
   leads_invokes [] w work rest before behind m t = record {
     on = λ total left ns c. let g : Outside rules total left (made_of rules (begun w work rest m behind before) c.full) (drop (length behind - length work) rest) before c.later = c.goes in
-      record {
-        out = g.out;
-        works = works_along refl (ap (λ xs. invoking w behind ++ xs) (sym c.all)) (invokes w work rest m behind c.full c.inner g.out left c.later t c.each g.works);
-        words = g.words
-      };
+        record {
+          out = g.out;
+          works = works_along refl (ap (λ xs. invoking w behind ++ xs) (sym c.all)) (invokes w work rest m behind c.full c.inner g.out left c.later t c.each g.works);
+          words = g.words;
+        };
     back = λ total left ns g. let s : Invoked rules w work rest m behind g.out left ns = shape_at rules (Invokes m behind) w work rest g.out left ns t g.works in record {
       more = s.inner ++ (made_notes rules m (raws m (args_of m behind)) s.full ++ s.more);
       goes = record { full = s.full; inner = s.inner; later = s.more; each = s.each; goes = record { out = g.out; works = s.works; words = g.words }; all = refl };
-      all = s.all
-    }
+      all = s.all;
+    };
   }
   leads_invokes (h ∷ fs) w work rest before behind m t = record {
     on = λ total left ns c. let g : Inside rules (Goes rules total left fs) h (made_of rules (begun w work rest m behind before) c.full) (drop (length behind - length work) rest) before c.later = c.goes in
-      record {
-        out = g.out;
-        first = invoking w behind ++ (c.inner ++ (made_notes rules m (raws m (args_of m behind)) c.full ++ g.first));
-        later = g.later;
-        works = invokes w work rest m behind c.full c.inner g.out [] g.first t c.each g.works;
-        called = g.called;
-        all = ap (λ xs. invoking w behind ++ xs) (c.all ∙ ap (λ xs. c.inner ++ (made_notes rules m (raws m (args_of m behind)) c.full ++ xs)) g.all ∙ sym (inner_three c.inner (made_notes rules m (raws m (args_of m behind)) c.full) g.first g.later))
-            ∙ three (invoking w behind) c.inner (made_notes rules m (raws m (args_of m behind)) c.full) g.first g.later
-      };
+        record {
+          out = g.out;
+          first = invoking w behind ++ (c.inner ++ (made_notes rules m (raws m (args_of m behind)) c.full ++ g.first));
+          later = g.later;
+          works = invokes w work rest m behind c.full c.inner g.out [] g.first t c.each g.works;
+          called = g.called;
+          all = ap (λ xs. invoking w behind ++ xs) (c.all ∙ ap (λ xs. c.inner ++ (made_notes rules m (raws m (args_of m behind)) c.full ++ xs)) g.all ∙ sym (inner_three c.inner (made_notes rules m (raws m (args_of m behind)) c.full) g.first g.later))
+              ∙ three (invoking w behind) c.inner (made_notes rules m (raws m (args_of m behind)) c.full) g.first g.later;
+        };
     back = λ total left ns g. let s : Invoked rules w work rest m behind g.out [] g.first = shape_at rules (Invokes m behind) w work rest g.out [] g.first t g.works in record {
       more = s.inner ++ (made_notes rules m (raws m (args_of m behind)) s.full ++ (s.more ++ g.later));
       goes = record {
-        full = s.full; inner = s.inner; later = s.more ++ g.later; each = s.each;
+        full = s.full;
+        inner = s.inner;
+        later = s.more ++ g.later;
+        each = s.each;
         goes = record { out = g.out; first = s.more; later = g.later; works = s.works; called = g.called; all = refl };
-        all = refl
+        all = refl;
       };
-      all = g.all ∙ ap (λ xs. xs ++ g.later) s.all ∙ append_assoc (invoking w behind) _ g.later ∙ ap (λ xs. invoking w behind ++ xs) (inner_three s.inner (made_notes rules m (raws m (args_of m behind)) s.full) s.more g.later)
-    }
+      all = g.all ∙ ap (λ xs. xs ++ g.later) s.all ∙ append_assoc (invoking w behind) _ g.later ∙ ap (λ xs. invoking w behind ++ xs) (inner_three s.inner (made_notes rules m (raws m (args_of m behind)) s.full) s.more g.later);
+    };
   }
 
   -- an argument ends
@@ -118,14 +128,18 @@ module _ (rules : Rules) where
   unfolding Goes
   leads_ends fs f before = record {
     on = λ total left ns c. record {
-      out = []; first = []; later = ns; works = done [];
-      called = called_along (Goes rules total left fs) f _ _ ns (sym (append_nil before)) c; all = refl
+      out = [];
+      first = [];
+      later = ns;
+      works = done [];
+      called = called_along (Goes rules total left fs) f _ _ ns (sym (append_nil before)) c;
+      all = refl;
     };
     back = λ total left ns g. let s : Nothing rules [] g.out [] g.first = shape rules g.works in record {
       more = g.later;
       goes = called_along (Goes rules total left fs) f _ _ g.later (ap (λ xs. before ++ xs) s.words ∙ append_nil before) g.called;
-      all = g.all ∙ ap (λ xs. xs ++ g.later) s.notes
-    }
+      all = g.all ∙ ap (λ xs. xs ++ g.later) s.notes;
+    };
   }
 
   -- the next argument begins
@@ -134,25 +148,33 @@ module _ (rules : Rules) where
   unfolding Goes
   leads_next fs f arg waiting = record {
     on = λ total left ns g. let c : Called rules (Goes rules total left fs) (with_done (with_waiting f waiting) g.out) g.later = g.called in record {
-      full = g.out ∷ c.full; inner = g.first ++ c.inner; later = c.later;
+      full = g.out ∷ c.full;
+      inner = g.first ++ c.inner;
+      later = c.later;
       each = next arg g.out waiting c.full g.first c.inner g.works c.each;
       goes = rw (← append_assoc f.done (g.out ∷ []) c.full) c.goes;
-      all = g.all ∙ ap (λ xs. g.first ++ xs) (c.all ∙ ap (λ full. c.inner ++ (made_notes rules f.mac f.args full ++ c.later)) (append_assoc f.done (g.out ∷ []) c.full)) ∙ sym (append_assoc g.first c.inner _)
+      all = g.all ∙ ap (λ xs. g.first ++ xs) (c.all ∙ ap (λ full. c.inner ++ (made_notes rules f.mac f.args full ++ c.later)) (append_assoc f.done (g.out ∷ []) c.full)) ∙ sym (append_assoc g.first c.inner _);
     };
     back = λ total left ns c. let s : Nexts rules arg waiting c.full c.inner = each_shape rules c.each in
-      let e : f.done ++ c.full ≡ (f.done ++ s.out ∷ []) ++ s.outs = ap (λ xs. f.done ++ xs) s.words ∙ sym (append_assoc f.done (s.out ∷ []) s.outs) in record {
-        more = ns;
-        goes = record {
-          out = s.out; first = s.first; later = s.more ++ (made_notes rules f.mac f.args (f.done ++ c.full) ++ c.later); works = s.works;
-          called = record {
-            full = s.outs; inner = s.more; later = c.later; each = s.each;
-            goes = subst (λ (full : List (List Word)). Goes rules total left fs (made_of rules f full) f.rest f.out c.later) e c.goes;
-            all = ap (λ full. s.more ++ (made_notes rules f.mac f.args full ++ c.later)) e
+        let e : f.done ++ c.full ≡ (f.done ++ s.out ∷ []) ++ s.outs = ap (λ xs. f.done ++ xs) s.words ∙ sym (append_assoc f.done (s.out ∷ []) s.outs) in record {
+          more = ns;
+          goes = record {
+            out = s.out;
+            first = s.first;
+            later = s.more ++ (made_notes rules f.mac f.args (f.done ++ c.full) ++ c.later);
+            works = s.works;
+            called = record {
+              full = s.outs;
+              inner = s.more;
+              later = c.later;
+              each = s.each;
+              goes = subst (λ (full : List (List Word)). Goes rules total left fs (made_of rules f full) f.rest f.out c.later) e c.goes;
+              all = ap (λ full. s.more ++ (made_notes rules f.mac f.args full ++ c.later)) e;
+            };
+            all = c.all ∙ ap (λ xs. xs ++ (made_notes rules f.mac f.args (f.done ++ c.full) ++ c.later)) s.all ∙ append_assoc s.first s.more _;
           };
-          all = c.all ∙ ap (λ xs. xs ++ (made_notes rules f.mac f.args (f.done ++ c.full) ++ c.later)) s.all ∙ append_assoc s.first s.more _
+          all = refl;
         };
-        all = refl
-      }
   }
 
   -- an invocation is replaced
@@ -161,14 +183,17 @@ module _ (rules : Rules) where
   unfolding Goes
   leads_closes fs f = record {
     on = λ total left ns g. record {
-      full = []; inner = []; later = ns; each = none;
+      full = [];
+      inner = [];
+      later = ns;
+      each = none;
       goes = rw (append_nil f.done) g;
-      all = ap (λ full. made_notes rules f.mac f.args full ++ ns) (sym (append_nil f.done))
+      all = ap (λ full. made_notes rules f.mac f.args full ++ ns) (sym (append_nil f.done));
     };
     back = λ total left ns c. let s : (c.full ≡ []) × (c.inner ≡ []) = each_shape rules c.each in
-      let e : f.done ++ c.full ≡ f.done = ap (λ xs. f.done ++ xs) s.0 ∙ append_nil f.done in record {
-        more = c.later;
-        goes = subst (λ (full : List (List Word)). Goes rules total left fs (made_of rules f full) f.rest f.out c.later) e c.goes;
-        all = c.all ∙ ap (λ xs. xs ++ (made_notes rules f.mac f.args (f.done ++ c.full) ++ c.later)) s.1 ∙ ap (λ full. made_notes rules f.mac f.args full ++ c.later) e
-      }
+        let e : f.done ++ c.full ≡ f.done = ap (λ xs. f.done ++ xs) s.0 ∙ append_nil f.done in record {
+          more = c.later;
+          goes = subst (λ (full : List (List Word)). Goes rules total left fs (made_of rules f full) f.rest f.out c.later) e c.goes;
+          all = c.all ∙ ap (λ xs. xs ++ (made_notes rules f.mac f.args (f.done ++ c.full) ++ c.later)) s.1 ∙ ap (λ full. made_notes rules f.mac f.args full ++ c.later) e;
+        };
   }

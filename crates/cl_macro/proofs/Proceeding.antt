@@ -1,5 +1,5 @@
 -- The steps over the invocations in work, as the code keeps them.
-use Rattle.std.proofs.Common.{◌≡◌, ℕ, zero, suc, ◌+◌, ◌-◌, ◌≤◌, ◌<◌, List, [], ◌∷◌, ◌++◌, length, drop, take, map, reverse, ◌≢◌, Option, Some, None, refl, sym, ap, subst, ◌∙◌, arith, append_assoc}
+use Rattle.std.proofs.Common.{length-drop, ◌≡◌, ℕ, zero, suc, ◌+◌, ◌-◌, ◌≤◌, ◌<◌, List, [], ◌∷◌, ◌++◌, length, drop, take, map, reverse, ◌≢◌, Option, Some, None, refl, sym, ap, subst, ◌∙◌, arith, append_assoc}
 use Rattle.std.proofs.lemmas.Grind.{common_steps}
 use Rattle.std.proofs.lemmas.List.{length-reverse}
 use Rattle.cl_base.specs.declared.macros.Macro.{Macro}
@@ -31,7 +31,15 @@ pushed_frames calls calls2 p e = ap frames e ∙ reverse_push calls p
 
 abbrev pub with_all : Frame → List (List Word) → Frame
 with_all f full = record {
-  mac = f.mac; space = f.space; set = f.set; args = f.args; done = full; waiting = f.waiting; work = f.work; rest = f.rest; out = f.out
+  mac = f.mac;
+  space = f.space;
+  set = f.set;
+  args = f.args;
+  done = full;
+  waiting = f.waiting;
+  work = f.work;
+  rest = f.rest;
+  out = f.out;
 }
 
 pub reverse_last : {A : Type 0} (all xs : List A) (x : A) → all ≡ xs ++ x ∷ [] → reverse all ≡ x ∷ reverse xs
@@ -54,6 +62,9 @@ invoking_one w ws = let t = took_zero (close_of ws) in let e : replacements (inv
 pub le_trans : (a b c : ℕ) → a ≤ b → b ≤ c → a ≤ c
 le_trans a b c h k = omega arith
 
+pub drop_short : (k : ℕ) (ws : List Word) (n : ℕ) → length ws ≤ n → length (drop k ws) ≤ n
+drop_short k ws n h = let e = length-drop k ws in omega arith
+
 pub popped_short : (n : ℕ) (calls calls2 : List Pending) (p : Pending) → calls ≡ calls2 ++ p ∷ [] → Short n (frames calls) → (length p.level.rest.now ≤ n) × Short n (frames calls2)
 popped_short n calls calls2 p e s = subst (λ (fs : List Frame). Short n fs) (pushed_frames calls2 calls p e) s
 
@@ -70,21 +81,25 @@ module _ (rules : Rules) where
       → notes2 ≡ notes ++ notes_of rules f f.done → replacements (notes_of rules f f.done) ≡ 0
       → Proceeds rules fs f notes fs level notes2
   proceeds_closes fs f level notes notes2 e r en z = record {
-    more = notes_of rules f f.done; all = en; none = z;
+    more = notes_of rules f f.done;
+    all = en;
+    none = z;
     leads = at_equal (between rules fs f) fs _ _ _ _ _ _ (notes_of rules f f.done) (sym r.work) (sym r.rest) (sym r.out)
         (subst (λ (ws : List (List Word)). Leads (between rules fs (with_waiting f ws)) (working rules fs (made_of rules f f.done) f.rest f.out) (notes_of rules f f.done)) (sym e) (leads_closes rules fs f));
-    closed = λ k. subst (λ (ws : List Word). Closed fs ws) (sym r.rest) k
+    closed = λ k. subst (λ (ws : List Word). Closed fs ws) (sym r.rest) k;
   }
 
   pub proceeds_next : (fs next : List Frame) (f : Frame) (arg : List Word) (waiting : List (List Word)) (level : Level) (notes : List Note)
       → f.waiting ≡ arg ∷ waiting → next ≡ with_waiting f waiting ∷ fs → reverse level.work ≡ arg → level.rest.now ≡ [] → level.out ≡ []
       → Proceeds rules fs f notes next level notes
   proceeds_next fs next f arg waiting level notes e en ew er eo = record {
-    more = []; all = sym (append_nil notes); none = refl;
+    more = [];
+    all = sym (append_nil notes);
+    none = refl;
     leads = subst (λ (n : List Frame). Leads (between rules fs f) (at_level rules n level) []) (sym en)
         (at_equal (between rules fs f) (with_waiting f waiting ∷ fs) _ _ _ _ _ _ [] (sym ew) (sym er) (sym eo)
-          (subst (λ (ws : List (List Word)). Leads (between rules fs (with_waiting f ws)) (working rules (with_waiting f waiting ∷ fs) arg [] []) []) (sym e) (leads_next rules fs f arg waiting)));
-    closed = λ k. subst (λ (n : List Frame). Closed n level.rest.now) (sym en) (er, k)
+        (subst (λ (ws : List (List Word)). Leads (between rules fs (with_waiting f ws)) (working rules (with_waiting f waiting ∷ fs) arg [] []) []) (sym e) (leads_next rules fs f arg waiting)));
+    closed = λ k. subst (λ (n : List Frame). Closed n level.rest.now) (sym en) (er, k);
   }
 
   both_none : (a b : List Note) → replacements a ≡ 0 → replacements b ≡ 0 → replacements (a ++ b) ≡ 0
@@ -107,7 +122,9 @@ module _ (rules : Rules) where
     leads = leads_then _ _ _ r.more s.more r.leads
         (at_equal _ next _ _ _ _ _ _ s.more refl refl (sym s.out) (leads_walks rules next _ _ s.front s.more _ _ level.out s.walks));
     closed = λ k. closed_kept next _ _ s.kept (r.closed k);
-    turns = i.turns; within = i.within; fits = i.fits
+    turns = i.turns;
+    within = i.within;
+    fits = i.fits;
   }
 
   pub runs_ended : (fs next : List Frame) (first level level2 : Level) (before notes notes2 : List Note)
@@ -118,7 +135,7 @@ module _ (rules : Rules) where
     none = both_none r.more s.more r.none s.none;
     leads = leads_then _ _ _ r.more s.more r.leads
         (at_equal _ next _ _ _ _ _ _ s.more refl refl (sym s.out) (leads_walks rules next _ _ s.front s.more _ _ level.out s.walks));
-    closed = λ k. closed_kept next _ _ s.kept (r.closed k)
+    closed = λ k. closed_kept next _ _ s.kept (r.closed k);
   }
 
   -- an argument has ended, and its invocation goes on
@@ -134,12 +151,15 @@ module _ (rules : Rules) where
         leads = leads_then _ _ _ r.more p.more
             (at_equal _ (f ∷ mid) _ _ _ _ _ _ r.more (ap reverse e) c.0 refl r.leads)
             (leads_then _ _ _ [] p.more (leads_ends rules mid f level.out) p.leads);
-        closed = λ k. p.closed c.1
+        closed = λ k. p.closed c.1;
       }
 
   pub reached_none : (w : Word) (level : Level) → level.work ≡ w ∷ [] → level.out ≡ [] → Reached rules w level.rest.now [] level [] 0
   reached_none w level e o = record {
-    leads = at_equal _ [] _ _ _ _ _ _ [] (sym (ap reverse e)) refl (sym o) (leads_none _); counts = refl; most = omega arith; closed = tt
+    leads = at_equal _ [] _ _ _ _ _ _ [] (sym (ap reverse e)) refl (sym o) (leads_none _);
+    counts = refl;
+    most = omega arith;
+    closed = tt;
   }
 
   works_of : (w : Word) (rest : List Word) (total left out : List Word) (ns : List Note) → total ≡ [] ++ out → Works rules (w ∷ []) rest out left ns → Works rules (w ∷ []) rest total left ns
@@ -166,7 +186,7 @@ module _ (rules : Rules) where
       record {
         works = subst (λ (o : List Word). Works rules (w ∷ []) rest o whole.left.now whole.notes) (sym eo)
             (subst (λ (l : List Word). Works rules (w ∷ []) rest level2.out l whole.notes) (sym el) (subst (λ (n : List Note). Works rules (w ∷ []) rest level2.out level2.rest.now n) (sym same) d));
-        small = let a = replacements_more notes e.runs.more in let b = r.counts in let z = e.runs.none in let m = r.most in let q = ap replacements same in omega arith
+        small = let a = replacements_more notes e.runs.more in let b = r.counts in let z = e.runs.none in let m = r.most in let q = ap replacements same in omega arith;
       }
 
   starts : (w : Word) (rest out left : List Word) (ns : List Note) → Works rules (w ∷ []) rest out left ns → Goes rules out left [] (w ∷ []) rest [] ns
@@ -206,5 +226,5 @@ module _ (rules : Rules) where
             let y = invoking_one found.word (take found.count (ahead level2)) in
             let u = ap replacements all in let z = g.none in let x = p.none in let n = r.counts in omega arith;
         most = let m = r.most in omega arith;
-        closed = p.closed (subst (λ (h : Frame). Closed next h.rest) (sym ef) (closed_kept next _ _ (λ e. ap (drop _) e ∙ drop_none _) (g.closed r.closed)))
+        closed = p.closed (subst (λ (h : Frame). Closed next h.rest) (sym ef) (closed_kept next _ _ (λ e. ap (drop _) e ∙ drop_none _) (g.closed r.closed)));
       }

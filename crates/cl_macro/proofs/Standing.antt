@@ -57,16 +57,26 @@ module _ (rules : Rules) where
 
   pub stood_none : (first : Level) (before : List Note) → Stood rules first before [] first before
   stood_none first before = record {
-    front = []; more = []; out = sym (append_nil first.out); all = sym (append_nil before); none = refl; kept = λ e. e;
-    walks = walks_none rules (work_of first) first.rest.now
+    front = [];
+    more = [];
+    out = sym (append_nil first.out);
+    all = sym (append_nil before);
+    none = refl;
+    kept = λ e. e;
+    walks = walks_none rules (work_of first) first.rest.now;
   }
 
   pub stood_pop : (first : Level) (before : List Note) (level level2 : Level) (notes : List Note) (w : Word) → Stood rules first before [] level notes
       → level.work ≡ level2.work ++ w ∷ [] → level2.rest.now ≡ level.rest.now → level2.out ≡ level.out → Stood rules first before (w ∷ []) level2 notes
   stood_pop first before level level2 notes w s e er eo = record {
-    front = s.front; more = s.more; out = eo ∙ s.out; all = s.all; none = s.none; kept = λ e. er ∙ s.kept e;
+    front = s.front;
+    more = s.more;
+    out = eo ∙ s.out;
+    all = s.all;
+    none = s.none;
+    kept = λ e. er ∙ s.kept e;
     walks = subst (λ (r : List Word). Walks rules (work_of first) first.rest.now s.front s.more (w ∷ work_of level2) r) (sym er)
-        (subst (λ (ws : List Word). Walks rules (work_of first) first.rest.now s.front s.more ws level.rest.now) (reverse_end level.work level2.work w e) s.walks)
+        (subst (λ (ws : List Word). Walks rules (work_of first) first.rest.now s.front s.more ws level.rest.now) (reverse_end level.work level2.work w e) s.walks);
   }
 
   -- a step from a token that was taken
@@ -76,12 +86,13 @@ module _ (rules : Rules) where
       → replacements more ≡ 0 → level3.out ≡ level.out ++ front → notes3 ≡ notes ++ more → (level.rest.now ≡ [] → level3.rest.now ≡ [])
       → Stood rules first before [] level3 notes3
   stood_by first before level level3 notes notes3 w front more s a z eo en k = record {
-    front = s.front ++ front; more = s.more ++ more;
+    front = s.front ++ front;
+    more = s.more ++ more;
     out = eo ∙ ap (λ xs. xs ++ front) s.out ∙ append_assoc first.out s.front front;
     all = en ∙ ap (λ xs. xs ++ more) s.all ∙ append_assoc before s.more more;
     none = both_zero s.more more s.none z;
     kept = λ e. k (s.kept e);
-    walks = walks_then rules _ _ _ _ _ _ _ _ _ _ s.walks a
+    walks = walks_then rules _ _ _ _ _ _ _ _ _ _ s.walks a;
   }
 
   pub stood_stays : (first : Level) (before : List Note) (level level3 : Level) (notes notes3 : List Note) (w : Word)
@@ -91,7 +102,7 @@ module _ (rules : Rules) where
   stood_stays first before level level3 notes notes3 w s t ew er eo en =
       stood_by first before level level3 notes notes3 w (w ∷ []) (looks w) s
       (subst (λ (r : List Word). Walks rules (w ∷ work_of level) level.rest.now (w ∷ []) (looks w) (work_of level3) r) (sym er)
-        (subst (λ (ws : List Word). Walks rules (w ∷ work_of level) level.rest.now (w ∷ []) (looks w) ws level.rest.now) (sym (ap reverse ew)) (walks_stays rules w (work_of level) level.rest.now t)))
+      (subst (λ (ws : List Word). Walks rules (w ∷ work_of level) level.rest.now (w ∷ []) (looks w) ws level.rest.now) (sym (ap reverse ew)) (walks_stays rules w (work_of level) level.rest.now t)))
       (looks_zero w) eo en (λ e. er ∙ e)
 
   pub taken_length : (n : ℕ) (ws : List Word) → n ≤ length ws → length (take n ws) ≡ n
@@ -104,7 +115,7 @@ module _ (rules : Rules) where
       subst (λ (r : List Word). Walks rules (w ∷ work_of level) level.rest.now front more (work_of level3) r)
       (ap (λ k. drop (k - length (work_of level)) level.rest.now) e ∙ ap (λ k. drop (n - k) level.rest.now) (length-reverse level.work) ∙ sym p.rest)
       (subst (λ (ws : List Word). Walks rules (w ∷ work_of level) level.rest.now front more ws (drop (m - length (work_of level)) level.rest.now))
-        (ap (λ k. drop k (work_of level)) e ∙ sym p.work) a)
+      (ap (λ k. drop k (work_of level)) e ∙ sym p.work) a)
 
   pub stood_misfits : (first : Level) (before : List Note) (level level3 : Level) (notes notes3 : List Note) (w : Word) (n : ℕ)
       → Stood rules first before (w ∷ []) level notes → turn rules.macros w (ahead level) ≡ Misfits (take n (ahead level)) → n ≤ length (ahead level)
@@ -132,6 +143,6 @@ module _ (rules : Rules) where
       let far : level3.rest.now ≡ [] = p.rest ∙ drop_all level.rest.now (n - length level.work) (let r = length-reverse level.work in omega arith) in
       stood_by first before level level3 notes notes3 w (w ∷ ahead level) (stay_notes 20 w (ahead level)) s
       (subst (λ (r : List Word). Walks rules (w ∷ work_of level) level.rest.now (w ∷ ahead level) (stay_notes 20 w (ahead level)) (work_of level3) r) (sym far)
-        (subst (λ (ws : List Word). Walks rules (w ∷ work_of level) level.rest.now (w ∷ ahead level) (stay_notes 20 w (ahead level)) ws []) (sym none)
-          (walks_open rules w (work_of level) level.rest.now t)))
+      (subst (λ (ws : List Word). Walks rules (w ∷ work_of level) level.rest.now (w ∷ ahead level) (stay_notes 20 w (ahead level)) ws []) (sym none)
+      (walks_open rules w (work_of level) level.rest.now t)))
       (stay_zero 20 w (ahead level)) (eo ∙ ap (λ xs. level.out ++ w ∷ xs) all) (en ∙ ap (λ xs. notes ++ stay_notes 20 w xs) all) (λ e. far)

@@ -56,7 +56,10 @@ at_here first level count i w h p g = get_map _ i w (get_take (ahead first) coun
 
 pub taking_none : (first : Level) (count most : ℕ) (none : Passes 0 first first) → Taking first count most 0 [] [] most 0 first
 taking_none first count most none = record {
-  passes = none; out = refl; deep = omega arith; parting = glued_nil _ (parted_some 0 most (map taken (take count (ahead first))))
+  passes = none;
+  out = refl;
+  deep = omega arith;
+  parting = glued_nil _ (parted_some 0 most (map taken (take count (ahead first))));
 }
 
 pub taking_part : (first : Level) (count most i : ℕ) (args : List (List Word)) (arg : List Word) (commas depth : ℕ) (level : Level) (w : Word) (level2 : Level)
@@ -64,12 +67,14 @@ pub taking_part : (first : Level) (count most i : ℕ) (args : List (List Word))
     → Passes 1 level level2 → level2.out ≡ level.out
     → Taking first count most (i + 1) (args ++ arg ∷ []) [] (commas - 1) depth level2
 taking_part first count most i args arg commas depth level w level2 h t g e p o = record {
-  passes = passes_on i first level level2 t.passes p; out = o ∙ t.out; deep = let d = t.deep in omega arith;
+  passes = passes_on i first level level2 t.passes p;
+  out = o ∙ t.out;
+  deep = let d = t.deep in omega arith;
   parting = t.parting ∙ ap (λ ws. args ++ glued arg (parted depth commas ws)) (drop_here _ i (taken w) (at_here first level count i w h t.passes g))
       ∙ ap (λ ps. args ++ glued arg ps) (part_yes (taken w) _ depth commas e)
       ∙ ap (λ x. args ++ x ∷ parted depth (commas - 1) (drop (i + 1) (map taken (take count (ahead first))))) (append_nil arg)
       ∙ ap (λ ps. args ++ arg ∷ ps) (glued_nil _ (parted_some depth (commas - 1) (drop (i + 1) (map taken (take count (ahead first))))))
-      ∙ sym (append_assoc args (arg ∷ []) _)
+      ∙ sym (append_assoc args (arg ∷ []) _);
 }
 
 pub taking_on : (first : Level) (count most i : ℕ) (args : List (List Word)) (arg : List Word) (commas depth : ℕ) (level : Level) (w : Word) (level2 : Level) (depth2 : ℕ)
@@ -77,11 +82,13 @@ pub taking_on : (first : Level) (count most i : ℕ) (args : List (List Word)) (
     → Passes 1 level level2 → level2.out ≡ level.out → depth2 ≡ depth_after (taken w) depth → depth2 ≤ depth + 1
     → Taking first count most (i + 1) args (arg ++ taken w ∷ []) commas depth2 level2
 taking_on first count most i args arg commas depth level w level2 depth2 h t g e p o ed k = record {
-  passes = passes_on i first level level2 t.passes p; out = o ∙ t.out; deep = let d = t.deep in omega arith;
+  passes = passes_on i first level level2 t.passes p;
+  out = o ∙ t.out;
+  deep = let d = t.deep in omega arith;
   parting = t.parting ∙ ap (λ ws. args ++ glued arg (parted depth commas ws)) (drop_here _ i (taken w) (at_here first level count i w h t.passes g))
       ∙ ap (λ ps. args ++ glued arg ps) (part_no (taken w) _ depth commas e)
       ∙ ap (λ ps. args ++ ps) (glued_before arg (taken w) _)
-      ∙ ap (λ d. args ++ glued (arg ++ taken w ∷ []) (parted d commas (drop (i + 1) (map taken (take count (ahead first)))))) (sym ed)
+      ∙ ap (λ d. args ++ glued (arg ++ taken w ∷ []) (parted d commas (drop (i + 1) (map taken (take count (ahead first)))))) (sym ed);
 }
 
 drop_map_take : (count : ℕ) (ws : List Word) → drop count (map taken (take count ws)) ≡ []
@@ -104,7 +111,7 @@ whole_count n ws h = let e : length (take (n + 2) ws) ≡ n + 2 = grind (arith, 
 -- the arguments among the tokens that an invocation takes
 pub args_taken : (variadic : Bool) (params n : ℕ) (ws : List Word) → n + 2 ≤ length ws
     → parted 0 (if variadic then params else n) (map taken (take n (drop 1 ws)))
-      ≡ arguments variadic params (map taken (take (length (take (n + 2) ws) - 2) (drop 1 (take (n + 2) ws))))
+    ≡ arguments variadic params (map taken (take (length (take (n + 2) ws) - 2) (drop 1 (take (n + 2) ws))))
 args_taken variadic params n ws h = rw (whole_count n ws h, take_inner n ws, inner_count n ws h) refl
 
 pub args_some : (m : Macro) (ps : List (List ℕ)) (n count : ℕ) (ws : List Word) → m.params ≡ Some ps → n + 2 ≡ count → count ≤ length ws

@@ -33,9 +33,12 @@ module _ (rules : Rules) where
         let s : Invoked rules w work rest m behind out2 left2 ns2 = shape_at rules (Invokes m behind) w work rest out2 left2 ns2 t e in
         let p = one_each a s.full s.inner s.each in
         let o = one_works d out2 left2 s.more
-            (subst (λ (f : List (List Word)). Works rules (made rules m (raws m (args_of m behind)) f w.token.space (set_of w behind) ++ drop (length behind) work) (drop (length behind - length work) rest) out2 left2 s.more) (sym p.0) s.works) in
-        record { words = o.words; rest = o.rest;
-          notes = (λ i. invoking w behind ++ (p.1 i ++ (made_notes rules m (raws m (args_of m behind)) (p.0 i) ++ o.notes i))) ∙ sym s.all }
+        (subst (λ (f : List (List Word)). Works rules (made rules m (raws m (args_of m behind)) f w.token.space (set_of w behind) ++ drop (length behind) work) (drop (length behind - length work) rest) out2 left2 s.more) (sym p.0) s.works) in
+        record {
+          words = o.words;
+          rest = o.rest;
+          notes = (λ i. invoking w behind ++ (p.1 i ++ (made_notes rules m (raws m (args_of m behind)) (p.0 i) ++ o.notes i))) ∙ sym s.all;
+        }
     one_works (misfits w work rest behind out left ns t d) out2 left2 ns2 e =
         let s : Misfitting rules w work rest behind out2 left2 ns2 = shape_at rules (Misfits behind) w work rest out2 left2 ns2 t e in
         let o = one_works d s.later left2 s.more s.works in
@@ -105,14 +108,16 @@ module _ (rules_at : Span → Rules) where
       → (total2 : List Word) (ts2 : List Told) → Expands rules_at before run total2 ts2 → (total ≡ total2) × (ts ≡ ts2)
   one_expansion (end before) total2 ts2 e = let s : (total2 ≡ []) × (ts2 ≡ []) = run_shape e in (sym s.0, sym s.1)
   one_expansion (whole before w rest out left more ns ts d k g) total2 ts2 e = elim (run_shape e) [
-      inl s ↦ let o = one_works (rules_at w.token.at) d s.out s.left s.first s.works in
+    | inl s ↦ let o = one_works (rules_at w.token.at) d s.out s.left s.first s.works in
         let p = one_expansion g s.more s.later
-            (subst (λ (l : List Word). Expands rules_at (before + length out) l s.more s.later) (sym o.rest)
-            (subst (λ (x : List Word). Expands rules_at (before + length x) s.left s.more s.later) (sym o.words) s.goes)) in
+        (subst (λ (l : List Word). Expands rules_at (before + length out) l s.more s.later) (sym o.rest)
+        (subst (λ (x : List Word). Expands rules_at (before + length x) s.left s.more s.later) (sym o.words) s.goes)) in
         ((λ i. settled w (o.notes i) (o.words i) ++ p.0 i) ∙ sym s.words, (λ i. all_told before (span_of w (o.notes i)) (o.notes i) ++ p.1 i) ∙ sym s.all)
-    | inr s ↦ too_small (replacements ns) k (s.big out left ns d) ]
+    | inr s ↦ too_small (replacements ns) k (s.big out left ns d)
+  ]
   one_expansion (large before w rest behind m more ts t k g) total2 ts2 e = elim (run_shape e) [
-      inl s ↦ too_small (replacements s.first) s.small (k s.out s.left s.first s.works)
+    | inl s ↦ too_small (replacements s.first) s.small (k s.out s.left s.first s.works)
     | inr s ↦ let b : behind ≡ s.behind = same_behind _ m s.m behind s.behind t s.turns in
         let p = one_expansion g s.more s.later (subst (λ (b2 : List Word). Expands rules_at (before + length (w ∷ b2)) (drop (length b2) rest) s.more s.later) (sym b) s.goes) in
-        ((λ i. w ∷ (b i ++ p.0 i)) ∙ sym s.words, (λ i. all_told before w.token.at (stay_notes 17 w (b i)) ++ p.1 i) ∙ sym s.all) ]
+        ((λ i. w ∷ (b i ++ p.0 i)) ∙ sym s.words, (λ i. all_told before w.token.at (stay_notes 17 w (b i)) ++ p.1 i) ∙ sym s.all)
+  ]

@@ -18,18 +18,31 @@ use Rattle.cl_macro.specs.Walks.{Frame, Leads, working, between}
 
 abbrev pub begun : Word → List Word → List Word → Macro → List Word → List Word → Frame
 begun w work rest m behind before = record {
-  mac = m; space = w.token.space; set = set_of w behind; args = raws m (args_of m behind); done = []; waiting = asked m (args_of m behind);
-  work = drop (length behind) work; rest = drop (length behind - length work) rest; out = before
+  mac = m;
+  space = w.token.space;
+  set = set_of w behind;
+  args = raws m (args_of m behind);
+  done = [];
+  waiting = asked m (args_of m behind);
+  work = drop (length behind) work;
+  rest = drop (length behind - length work) rest;
+  out = before;
 }
-
 
 abbrev pub begun_at : Invoked → Level → Frame
 begun_at found level = begun found.word (reverse level.work) level.rest.now found.mac.now (take found.count (ahead level)) level.out
 
 abbrev pub frame_of : Pending → Frame
 frame_of p = record {
-  mac = p.mac.now; space = p.space; set = p.set; args = p.args; done = p.done; waiting = reverse p.waiting;
-  work = reverse p.level.work; rest = p.level.rest.now; out = p.level.out
+  mac = p.mac.now;
+  space = p.space;
+  set = p.set;
+  args = p.args;
+  done = p.done;
+  waiting = reverse p.waiting;
+  work = reverse p.level.work;
+  rest = p.level.rest.now;
+  out = p.level.out;
 }
 
 -- the innermost first

@@ -45,8 +45,13 @@ abbrev pub rules_of : MacroTable → (List ℕ → Option Kind) → List ℕ →
 rules_of macros one_token file text at = record {
   macros = lookup macros;
   one_token = one_token;
-  here = record { file = file; line = line_at text at.from + 1 }
+  here = record { file = file; line = line_at text at.from + 1 };
 }
+
+-- the tokens of a run stand in this text
+abbrev pub Within : List ℕ → List Word → Type 0
+Within text [] = Unit {0}
+Within text (w ∷ ws) = (w.token.at.from ≤ length text) × Within text ws
 
 abbrev pub turned : Doing → List Word → Turn
 turned doing.Stays ws = Stays

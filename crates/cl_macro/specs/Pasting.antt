@@ -16,7 +16,7 @@ abbrev pub with_space : Bool → Word → Word
 with_space space w = record {
   token = record { kind = w.token.kind; text = w.token.text; space = space; spell = w.token.spell; at = w.token.at };
   hide = w.hide;
-  given = w.given
+  given = w.given;
 }
 
 -- the first token takes this space
@@ -79,7 +79,7 @@ abbrev pub joined_word : Kind → Word → Word → Word
 joined_word k a b = record {
   token = record { kind = k; text = a.token.text ++ b.token.text; space = a.token.space; spell = None; at = nowhere };
   hide = both a.hide b.hide;
-  given = false
+  given = false;
 }
 
 abbrev pub one_or : Option Kind → Word → Word → Option Part
@@ -108,8 +108,9 @@ joins one_token due left [] = record { words = kept left; notes = [] }
 joins one_token due left (part.Paste ∷ ps) = joins one_token true left ps
 joins one_token false left (p ∷ ps) = put (kept left) [] (joins one_token false p ps)
 joins one_token true left (p ∷ ps) = elim (glue one_token left p) [
-    Some q ↦ joins one_token false q ps
-  | None ↦ put (kept left) (note.Faulty 21 None ∷ []) (joins one_token false (unspaced p) ps) ]
+  | Some q ↦ joins one_token false q ps
+  | None ↦ put (kept left) (note.Faulty 21 None ∷ []) (joins one_token false (unspaced p) ps)
+]
 
 abbrev pub joined_body : (List ℕ → Option Kind) → Macro → List (List Word) → List (List Word) → Joined
 joined_body one_token m args full = joins one_token false (part.Marker false) (parts_of m args full false None m.body)

@@ -31,7 +31,7 @@ abbrev pub settled_word : Span → Word → Word
 settled_word at w = record {
   token = record { kind = w.token.kind; text = w.token.text; space = w.token.space; spell = w.token.spell; at = if w.given then w.token.at else at };
   hide = w.hide;
-  given = w.given
+  given = w.given;
 }
 
 abbrev pub settled : Word → List Note → List Word → List Word
@@ -60,7 +60,7 @@ module _ (rules : Rules) where
           (out left : List Word) (ns : List Note) → turn rules.macros w (work ++ rest) ≡ Invokes m behind
           → Each (asked m (args_of m behind)) full inner
           → Works (made rules m (raws m (args_of m behind)) full w.token.space (set_of w behind) ++ drop (length behind) work)
-              (drop (length behind - length work) rest) out left ns
+          (drop (length behind - length work) rest) out left ns
           → Works (w ∷ work) rest out left (invoking w behind ++ (inner ++ (made_notes rules m (raws m (args_of m behind)) full ++ ns)))
       misfits : (w : Word) (work rest behind : List Word) (out left : List Word) (ns : List Note)
           → turn rules.macros w (work ++ rest) ≡ Misfits behind

@@ -14,7 +14,7 @@ abbrev pub made_word : Kind → List ℕ → Bool → Word
 made_word k text space = record {
   token = record { kind = k; text = text; space = space; spell = None; at = nowhere };
   hide = [];
-  given = false
+  given = false;
 }
 
 abbrev pub is_quoted : Kind → Bool

@@ -22,12 +22,28 @@ pub record Frame : Type 0 where
 
 abbrev pub with_done : Frame → List Word → Frame
 with_done f ws = record {
-  mac = f.mac; space = f.space; set = f.set; args = f.args; done = f.done ++ ws ∷ []; waiting = f.waiting; work = f.work; rest = f.rest; out = f.out
+  mac = f.mac;
+  space = f.space;
+  set = f.set;
+  args = f.args;
+  done = f.done ++ ws ∷ [];
+  waiting = f.waiting;
+  work = f.work;
+  rest = f.rest;
+  out = f.out;
 }
 
 abbrev pub with_waiting : Frame → List (List Word) → Frame
 with_waiting f waiting = record {
-  mac = f.mac; space = f.space; set = f.set; args = f.args; done = f.done; waiting = waiting; work = f.work; rest = f.rest; out = f.out
+  mac = f.mac;
+  space = f.space;
+  set = f.set;
+  args = f.args;
+  done = f.done;
+  waiting = waiting;
+  work = f.work;
+  rest = f.rest;
+  out = f.out;
 }
 
 abbrev pub made_of : Rules → Frame → List (List Word) → List Word

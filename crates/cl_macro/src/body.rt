@@ -51,7 +51,13 @@ fn push_tokens(alloc: Global, joint: &mut Joint, notes: &mut List<Note>, words: 
 }
 
 /// Adds copies of these tokens, the first with this space before it.
-fn push_spaced(alloc: Global, joint: &mut Joint, notes: &mut List<Note>, words: &[Word], space: bool) -> Mem<()>
+fn push_spaced(
+    alloc: Global,
+    joint: &mut Joint,
+    notes: &mut List<Note>,
+    words: &[Word],
+    space: bool,
+) -> Mem<()>
     ensures { (one_token : List ℕ → Option TheKind) → TellsTokens one_token → (ps : List ThePart) → OnOk result (resume one_token joint.old notes.old (tokens (spaced space words.now) ++ ps) ≡ resume one_token joint.new notes.new ps) }
 {
     if let Some((first, behind)) = words.split_first() {
@@ -63,7 +69,13 @@ fn push_spaced(alloc: Global, joint: &mut Joint, notes: &mut List<Note>, words: 
 }
 
 /// Adds an argument that stands beside `##`.
-fn push_raw(alloc: Global, joint: &mut Joint, notes: &mut List<Note>, words: &[Word], space: bool) -> Mem<()>
+fn push_raw(
+    alloc: Global,
+    joint: &mut Joint,
+    notes: &mut List<Note>,
+    words: &[Word],
+    space: bool,
+) -> Mem<()>
     ensures { (one_token : List ℕ → Option TheKind) → TellsTokens one_token → (ps : List ThePart) → OnOk result (resume one_token joint.old notes.old (raw_parts space words.now ++ ps) ≡ resume one_token joint.new notes.new ps) }
 {
     let Some((first, behind)) = words.split_first() else {
@@ -85,7 +97,14 @@ pub(crate) struct Args<'a> {
 }
 
 /// Adds what a token of the body stands for.
-fn push_part(alloc: Global, joint: &mut Joint, notes: &mut List<Note>, args: &Args, token: &BodyToken, beside: bool) -> Mem<()>
+fn push_part(
+    alloc: Global,
+    joint: &mut Joint,
+    notes: &mut List<Note>,
+    args: &Args,
+    token: &BodyToken,
+    beside: bool,
+) -> Mem<()>
     ensures { (one_token : List ℕ → Option TheKind) → TellsTokens one_token → (ps : List ThePart) → OnOk result (resume one_token joint.old notes.old (parts_by beside args.now.raw.now args.now.full.now token.now (param_at args.now.mac.now token.now) ++ ps) ≡ resume one_token joint.new notes.new ps) }
 {
     let Some(i) = param_at(args.mac, token) else {
@@ -136,7 +155,14 @@ pub(crate) fn joined_body(alloc: Global, args: &Args, notes: &mut List<Note>) ->
             hash = Some(token.space);
             continue;
         }
-        push_part(alloc, &mut joint, notes, args, token, is_beside(after, behind))?;
+        push_part(
+            alloc,
+            &mut joint,
+            notes,
+            args,
+            token,
+            is_beside(after, behind),
+        )?;
         after = false;
     }
     let mut words = joint.words;

@@ -8,8 +8,8 @@ ghost use Rattle.cl_macro.specs.Turns.{invoking};
 ghost use Rattle.cl_macro.specs.Frames.{Proceeds, Replaced, Short, begun_at, frame_of, frames, waits};
 
 use crate::args::{args_of, note_invocation, reversed, set_of};
-use crate::level::Level;
 use crate::body::Args;
+use crate::level::Level;
 use crate::made::{lay, whole_body};
 use crate::needed::{asked, raws};
 use crate::note::Note;
@@ -20,7 +20,12 @@ use cl_base::{List, Mem};
 use std::alloc::Global;
 
 /// Takes the tokens of an invocation.
-pub(crate) fn invoke<'a>(alloc: Global, level: Level<'a>, notes: &mut List<Note>, found: Invoked<'a>) -> Mem<Pending<'a>>
+pub(crate) fn invoke<'a>(
+    alloc: Global,
+    level: Level<'a>,
+    notes: &mut List<Note>,
+    found: Invoked<'a>,
+) -> Mem<Pending<'a>>
     requires within { found.count ≤ length (ahead level) }
     requires takes { Takes found.mac.now.params found.count }
     ensures frame { IfOk result (λ p. frame_of p ≡ begun_at found.entry level.entry) }
@@ -72,7 +77,12 @@ pub(crate) fn proceed<'a>(
 }
 
 /// What an invocation stands in, with what replaces it.
-fn replaced<'a>(alloc: Global, place: &Place, notes: &mut List<Note>, pending: Pending<'a>) -> Mem<Level<'a>>
+fn replaced<'a>(
+    alloc: Global,
+    place: &Place,
+    notes: &mut List<Note>,
+    pending: Pending<'a>,
+) -> Mem<Level<'a>>
     ensures words { (rules : Rules) → Suits rules place.now → IfOk result (λ level. Replaced rules (frame_of pending.entry) level) }
     ensures rest { IfOk result (λ level. level.rest.now ≡ pending.entry.level.rest.now) }
     ensures notes { (rules : Rules) → Suits rules place.now → OnOk result (notes.new ≡ notes.old ++ notes_of rules (frame_of pending.entry) pending.entry.done) }

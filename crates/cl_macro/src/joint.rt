@@ -106,7 +106,9 @@ fn glue(alloc: Global, left: Part, right: Part) -> Mem<Glued>
             Ok(glued)
         }
         (Part::Token(left), Part::Marker(_)) => Ok(Glued::One(Part::Token(left))),
-        (Part::Marker(space), Part::Token(right)) => Ok(Glued::One(Part::Token(with_space(right, space)))),
+        (Part::Marker(space), Part::Token(right)) => Ok(Glued::One(Part::Token(with_space(
+            right, space,
+        )))),
         (Part::Marker(space), Part::Marker(_)) => Ok(Glued::One(Part::Marker(space))),
         (left, right) => Ok(Glued::Two(left, right)),
     }

@@ -12,7 +12,11 @@ use std::alloc::Global;
 fn is_wanted(raw: bool, after: bool, behind: &[BodyToken]) -> bool
     ensures { result ≡ as_wanted raw (after || pastes_next behind.now) }
 {
-    if after { raw } else { raw == pastes_next(behind) }
+    if after {
+        raw
+    } else {
+        raw == pastes_next(behind)
+    }
 }
 
 /// Whether a token is the parameter of this number, and stands as it is wanted.
@@ -58,7 +62,11 @@ fn is_needed(mac: &Macro, raw: bool, i: usize) -> bool
 fn asked_one(alloc: Global, mac: &Macro, i: usize, arg: List<Word>) -> List<Word>
     ensures { result ≡ needed_one mac.now false i arg }
 {
-    if is_needed(mac, false, i) { arg } else { List::new(alloc) }
+    if is_needed(mac, false, i) {
+        arg
+    } else {
+        List::new(alloc)
+    }
 }
 
 fn raw_one(alloc: Global, mac: &Macro, i: usize, arg: &List<Word>) -> Mem<List<Word>>

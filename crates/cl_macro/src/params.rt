@@ -43,7 +43,11 @@ fn place(names: &[Name], text: &Name) -> Option<usize>
 fn rest_at(mac: &Macro, token: &BodyToken, count: usize) -> Option<usize>
     ensures { result ≡ rest_at mac.now token.now count }
 {
-    if is_rest(mac, token) { Some(count) } else { None }
+    if is_rest(mac, token) {
+        Some(count)
+    } else {
+        None
+    }
 }
 
 /// The number of the parameter that a token of the body is.
