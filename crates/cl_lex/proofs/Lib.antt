@@ -1,5 +1,7 @@
 mod Characters
 mod Classes
+mod Decided
+mod Exists
 mod HeldFacts
 mod Joining
 mod Lexed
@@ -9,4 +11,6 @@ mod Order
 mod Pass
 mod PlainText
 mod Quotes
+mod Singles
 pub mod Unique
+mod Words

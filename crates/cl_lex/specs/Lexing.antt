@@ -80,3 +80,8 @@ pub record Lexes (text : List ℕ) (lexed : Lexed) : Type 0 where
   pub tiles : Tiles (values (characters text)) [] 0 items
   pub tokens : lexed.tokens ≡ tokens_of (characters text) false true items
   pub faults : lexed.faults ≡ faults_of (characters text) items
+
+-- a text has tokens and faults
+pub record HasLexing (text : List ℕ) : Type 0 where
+  pub lexed : Lexed
+  pub lexes : Lexes text lexed

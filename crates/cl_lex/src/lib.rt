@@ -15,6 +15,6 @@ mod source;
 mod tokens;
 mod universal;
 
-pub use laws::one_lexing;
+pub use laws::{one_lexing, some_lexing};
 pub use single::one_token;
 pub use tokens::lex;

@@ -5,7 +5,7 @@ ghost use Rattle.cl_lex.specs.Bytes.{is_blank, is_digit, is_name_start};
 ghost use Rattle.cl_lex.specs.Items.{IsItem};
 ghost use Rattle.cl_lex.specs.Spelling.{IsStr};
 
-use crate::bytes::{is_blank, is_digit, is_name_start, stands};
+use crate::bytes::{is_blank, is_digit, is_name_start, is_quote_at, stands};
 use crate::comment::comment_end;
 use crate::item::{Item, ItemKind};
 use crate::punctuator::punctuator_len;
@@ -47,8 +47,28 @@ pub(crate) fn next_item(chars: &[u8], at: usize, header: bool) -> Item
     }
 }
 
-/// What begins with a letter or `_`: an identifier, or a character constant or a string literal with a prefix.
+/// What begins with a letter or `_`: an identifier, or, where a quote stands after it, maybe a literal.
 fn word(chars: &[u8], at: usize) -> Item
+    requires within { at < length chars.now }
+    requires first { is_name_start (slice_index chars.now at) ≡ true }
+    ensures from { result.from ≡ at }
+    ensures grows { at < result.to }
+    ensures within { result.to ≤ length chars.now }
+    ensures item { (header : Bool) → IsItem chars.now header result.kind at result.to }
+{
+    let to = name_end(chars, at + 1);
+    if is_quote_at(chars, to) {
+        return prefixed(chars, at);
+    }
+    Item {
+        kind: ItemKind::Token(Kind::Ident),
+        from: at,
+        to,
+    }
+}
+
+/// What begins with a letter or `_`: a character constant or a string literal with a prefix, or else an identifier.
+fn prefixed(chars: &[u8], at: usize) -> Item
     requires within { at < length chars.now }
     requires first { is_name_start (slice_index chars.now at) ≡ true }
     ensures from { result.from ≡ at }

@@ -1,8 +1,8 @@
 mod Deciding
 mod Straying
-mod Working
 mod Standing
-mod Values
+mod Branching
 mod Going
+mod Order
 mod Found
 pub mod Unique

@@ -13,8 +13,6 @@ use Rattle.cl_cond.specs.declared.eval.IfValue.TheVariants.{Value, BadIf}
 use Rattle.cl_cond.specs.declared.mark.Condition.{Condition}
 use Rattle.cl_cond.specs.declared.mark.Condition.TheVariants.{If, IfDef, IfNDef, Elif, Else}
 use Rattle.cl_cond.specs.declared.mark.Mark.{Mark}
-use Rattle.cl_cond.specs.declared.mark.Part.{Part}
-use Rattle.cl_cond.specs.declared.mark.Part.TheVariants.{Branch}
 use Rattle.cl_cond.specs.Lines.{is_hash}
 use Rattle.cl_pp.specs.Defined.{decided, is_ident, is_word, span_at, spread}
 
@@ -132,34 +130,31 @@ abbrev pub span_or : Option PpToken → List Token → Span
 span_or (Some token) line = token.at
 span_or None line = token_span (slice_get line (length line - 1))
 
-abbrev pub bad_if : IfValue → List Token → List Diag
-bad_if (Value bits unsigned) line = []
-bad_if (BadIf place) line = record { number = 15; at = span_or (slice_get (decided (rest_of line)) place) line; name = None } ∷ []
+abbrev pub bad_if : Option IfValue → List Token → List Diag
+bad_if (Some (BadIf place)) line = record { number = 15; at = span_or (slice_get (decided (rest_of line)) place) line; name = None } ∷ []
+bad_if _ line = []
 
-abbrev pub is_true : IfValue → Bool
-is_true (Value bits unsigned) = not (bits == 0)
-is_true (BadIf place) = false
+-- a condition that is at fault counts 0
+abbrev pub is_true : Option IfValue → Bool
+is_true (Some (Value bits unsigned)) = not (bits == 0)
+is_true _ = false
 
 abbrev pub has_name : List Token → Bool
 has_name [] = false
 has_name (token ∷ tokens) = is_ident token.kind
 
--- a condition that is at fault counts 0, and no macro is defined at this stage
-abbrev pub branch_holds : Condition → List Token → IfValue → Bool
+-- whether the condition is fulfilled; no macro is defined at this stage
+abbrev pub branch_holds : Condition → List Token → Option IfValue → Bool
 branch_holds If line value = is_true value
 branch_holds Elif line value = is_true value
 branch_holds IfDef line value = false
 branch_holds IfNDef line value = has_name (rest_of line)
 branch_holds Else line value = true
 
-abbrev pub part_holds : Part → List Token → IfValue → Bool
-part_holds (Branch c) line value = branch_holds c line value
-part_holds _ line value = false
-
--- the faults of a branch's line that is looked at: a condition is worked only where its branch may be taken
-abbrev pub branch_faults : Condition → Bool → List Token → IfValue → List Diag
-branch_faults If may line value = bad_if value line
-branch_faults IfDef may line value = alone_in line
-branch_faults IfNDef may line value = alone_in line
-branch_faults Elif may line value = if may then bad_if value line else []
-branch_faults Else may line value = extra (rest_of line)
+-- the faults of a branch's line that is looked at
+abbrev pub branch_faults : Condition → List Token → Option IfValue → List Diag
+branch_faults If line value = bad_if value line
+branch_faults Elif line value = bad_if value line
+branch_faults IfDef line value = alone_in line
+branch_faults IfNDef line value = alone_in line
+branch_faults Else line value = extra (rest_of line)

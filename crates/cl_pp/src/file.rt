@@ -1,19 +1,19 @@
 //! Preprocesses a file.
 
 ghost use Rattle.std.specs.Prelude.{◌≡◌, ◌≤◌, ◌++◌, [], length, map, reverse, true, IfOk, OnOk};
-ghost use Rattle.cl_cond.specs.declared.eval.IfValue.{IfValue};
-ghost use Rattle.cl_cond.specs.declared.mark.Mark.{Mark};
-ghost use Rattle.cl_pp.specs.Branches.{HasValue, Passes};
+ghost use Rattle.cl_pp.specs.Activity.{Active};
+ghost use Rattle.cl_pp.specs.Branches.{IsWorked, held_by, works};
 ghost use Rattle.cl_pp.specs.Lines.{line_of, spread_fault};
-ghost use Rattle.cl_pp.specs.Places.{LieWithin, MarksLie};
-ghost use Rattle.cl_pp.specs.Preprocessing.{AreValues, Preprocesses, faults_by, faults_from, open_comments, tokens_by, tokens_from};
-ghost use Rattle.cl_pp.specs.Stacks.{tell, top_of};
+ghost use Rattle.cl_pp.specs.Places.{InOrder, MarksLie};
+ghost use Rattle.cl_pp.specs.Preprocessing.{Preprocesses, faults_by, open_comments, tokens_by};
+ghost use Rattle.cl_pp.specs.code.Stacks.{Adds, stacked, tell, top_of};
 
-use crate::look::look;
+use crate::branch::{held, value};
+use crate::look::{line_faults, line_tokens};
 use crate::section::{Section, pass, top};
 use crate::token::span_at;
 use cl_base::{Diag, Fault, List, Mem, PpDone, Token};
-use cl_cond::{Mark, groups};
+use cl_cond::{IfValue, Mark, groups};
 use cl_lex::lex;
 use std::alloc::Global;
 
@@ -33,7 +33,7 @@ use std::alloc::Global;
 /// 268,435,456 bytes is want of memory.
 pub fn preprocess(alloc: Global, text: &[u8]) -> Mem<PpDone>
     ensures done { IfOk result (λ done. Preprocesses text.now done) }
-    ensures within { IfOk result (λ done. LieWithin (length text.now) done.tokens) }
+    ensures order { IfOk result (λ done. InOrder 0 (length text.now) done.tokens) }
 {
     let lexed = lex(alloc, text)?;
     let groups = groups(alloc, lexed.tokens.as_slice())?;
@@ -54,9 +54,8 @@ pub fn preprocess(alloc: Global, text: &[u8]) -> Mem<PpDone>
 
 /// Adds the tokens and the faults of the lines of a file.
 fn lines(alloc: Global, tokens: &[Token], marks: &[Mark], done: &mut PpDone) -> Mem<()>
-    requires lie { MarksLie (length tokens.now) marks.now }
-    ensures tokens { OnOk result ((values : Mark → IfValue) → AreValues tokens.now values → done.new.tokens ≡ done.old.tokens ++ tokens_from tokens.now values [] marks.now) }
-    ensures faults { OnOk result ((values : Mark → IfValue) → AreValues tokens.now values → done.new.faults ≡ done.old.faults ++ faults_from tokens.now values [] marks.now) }
+    requires { MarksLie 0 (length tokens.now) marks.now }
+    ensures { OnOk result (Adds tokens.now marks.now done.old done.new) }
 {
     let mut sections = List::new(alloc);
     for mark in marks {
@@ -65,25 +64,27 @@ fn lines(alloc: Global, tokens: &[Token], marks: &[Mark], done: &mut PpDone) -> 
     Ok(())
 }
 
-/// Adds the tokens and the faults of a line, and passes it.
+/// Adds the tokens and the faults of a line, passes it, and hands on what its condition came to.
 fn take_line(
     alloc: Global,
     tokens: &[Token],
     mark: Mark,
     sections: &mut List<Section>,
     done: &mut PpDone,
-) -> Mem<()>
-    requires lie { (mark.from ≤ mark.to) × (mark.to ≤ length tokens.now) }
-    requires free { (top_of (reverse sections.old)).free ≡ true → (top_of (reverse sections.old)).outer ≡ true }
-    ensures tokens { OnOk result (done.new.tokens ≡ done.old.tokens ++ tokens_by mark.part (top_of (reverse sections.old)).active (line_of tokens.now mark)) }
-    ensures faults { OnOk result ((value : IfValue) → HasValue (line_of tokens.now mark) value → done.new.faults ≡ done.old.faults ++ faults_by mark.part (tell (top_of (reverse sections.old))) (line_of tokens.now mark) value) }
-    ensures sections { OnOk result ((value : IfValue) → HasValue (line_of tokens.now mark) value → Passes mark.part (line_of tokens.now mark) value (reverse sections.old) (reverse sections.new)) }
+) -> Mem<Option<IfValue>>
+    requires { (mark.from ≤ mark.to) × (mark.to ≤ length tokens.now) }
+    ensures value { IfOk result (λ value. IsWorked (works mark.part (tell (top_of (reverse sections.old)))) (line_of tokens.now mark) value) }
+    ensures tokens { IfOk result (λ value. done.new.tokens ≡ done.old.tokens ++ tokens_by mark.part (tell (top_of (reverse sections.old)) Active) (line_of tokens.now mark)) }
+    ensures faults { IfOk result (λ value. done.new.faults ≡ done.old.faults ++ faults_by mark.part (tell (top_of (reverse sections.old))) (line_of tokens.now mark) value) }
+    ensures sections { IfOk result (λ value. reverse sections.new ≡ stacked mark.part (held_by mark.part (line_of tokens.now mark) value) (reverse sections.old)) }
 {
     let line = &tokens[mark.from as usize..mark.to as usize];
     let here = top(sections.as_slice());
-    let held = look(alloc, mark.part, line, here, done)?;
-    pass(sections, mark.part, held)?;
-    Ok(())
+    let value = value(alloc, mark.part, here, line)?;
+    line_faults(alloc, &mut done.faults, mark.part, here, line, value)?;
+    line_tokens(alloc, &mut done.tokens, mark.part, here, line)?;
+    pass(sections, mark.part, held(mark.part, line, value))?;
+    Ok(value)
 }
 
 /// The faults of comments without an end.
