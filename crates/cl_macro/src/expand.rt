@@ -74,7 +74,13 @@ impl MacroTable {
     /// The whole replacement of the macros in a run of tokens that holds no directive, in the file of this path and with
     /// these lines (N1570 6.10.3). What is told are the names that are looked up, the names that are replaced, and the
     /// faults 17 (more than 65,535 replacements), 19 (wrong number of arguments), 20 (no `)`) and 21 (`##` makes no token).
-    pub fn expand(&self, alloc: Global, run: &[PpToken], path: &Path, lines: &LineTable) -> Mem<Expansion>
+    pub fn expand(
+        &self,
+        alloc: Global,
+        run: &[PpToken],
+        path: &Path,
+        lines: &LineTable,
+    ) -> Mem<Expansion>
         ensures { (one_token : List ℕ → Option TheKind) (text : List ℕ) → TellsTokens one_token → IsTableOf lines.now text → Within text (map fresh run.now) → IfOk result (λ all. IsExpansion (rules_of self.now one_token (quoted (escaped path.now)) text) run.now all.tokens all.told) }
     {
         let file = file_literal(alloc, path)?;

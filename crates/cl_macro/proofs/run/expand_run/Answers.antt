@@ -60,14 +60,15 @@ loop-first-preserved c = λ o text t b within.
     let a : ahead level ≡ c.in-Some.behind.now = ap (λ (xs : List Word). reverse xs ++ c.in-Some.behind.now) c.new.ensures in
     let there : turn (lookup c.args.table.now) c.in-Some.first.now (ahead level) ≡ Invokes i.0 i.1 =
     subst (λ (ws : List Word). turn (lookup c.args.table.now) c.in-Some.first.now ws ≡ Invokes i.0 i.1) (sym a) i.2 in
-    let p = c.in_ok-stay.ensures.passes in
-    (gone_stay (rules_of c.args.table.now o c.args.file.now text) _ _ c.loop-first.words c.loop-first.told c.in-Some.first.now c.in_ok-word-2.word i.0 c.in-Some.behind.now i.1 c.taken_by-count.result
-      level c.stay.new.level _ c.stay.new.notes _
-      k.0 e c.in_ok-word-2.ensures c.new.ensures refl c.new-in-Some.ensures i.2 (c.taken_by-count.ensures.value i.0 i.1 there) c.taken_by-count.ensures.within large2
-      p c.in_ok-stay.ensures.out c.in_ok-append.ensures
-      (c.in_ok-stay.ensures.notes ∙ ap (λ (ns : List Note). ns ++ stay_notes 17 c.in_ok-word-2.word (take c.taken_by-count.result (ahead level))) c.new-notes.ensures)
-      (c.in_ok-tell-2.ensures ∙ (λ j. c.loop-first.told ++ all_told (c.len-before.ensures.value j) c.in-Some.first.now.token.at (c.as_slice-in-Some.ensures.value j))),
-    subst (λ (ws : List Word). Within text ws) (sym p.rest) (within_drop rules text _ c.in-Some.behind.now v.1))
+    let p = c.in_ok-stay.ensures.passes in (
+      gone_stay (rules_of c.args.table.now o c.args.file.now text) _ _ c.loop-first.words c.loop-first.told c.in-Some.first.now c.in_ok-word-2.word i.0 c.in-Some.behind.now i.1 c.taken_by-count.result
+          level c.stay.new.level _ c.stay.new.notes _
+          k.0 e c.in_ok-word-2.ensures c.new.ensures refl c.new-in-Some.ensures i.2 (c.taken_by-count.ensures.value i.0 i.1 there) c.taken_by-count.ensures.within large2
+          p c.in_ok-stay.ensures.out c.in_ok-append.ensures
+          (c.in_ok-stay.ensures.notes ∙ ap (λ (ns : List Note). ns ++ stay_notes 17 c.in_ok-word-2.word (take c.taken_by-count.result (ahead level))) c.new-notes.ensures)
+          (c.in_ok-tell-2.ensures ∙ (λ j. c.loop-first.told ++ all_told (c.len-before.ensures.value j) c.in-Some.first.now.token.at (c.as_slice-in-Some.ensures.value j))),
+      subst (λ (ws : List Word). Within text ws) (sym p.rest) (within_drop rules text _ c.in-Some.behind.now v.1),
+    )
 
 pub returns : goal.returns
 returns c = λ o text t b within.

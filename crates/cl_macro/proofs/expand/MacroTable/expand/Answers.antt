@@ -13,6 +13,6 @@ returns c = λ o text t b w.
       words = c.in_ok-worked.worked.words;
       expands = subst (λ (ws : List Word). Expands (rules_of c.args.self.now o (quoted (escaped c.args.path.now)) text) 0 ws c.in_ok-worked.worked.words c.in_ok-worked.worked.told) e
           (subst (λ (f : List ℕ). Expands (rules_of c.args.self.now o f text) 0 c.as_slice.result.now c.in_ok-worked.worked.words c.in_ok-worked.worked.told) c.in_ok-file.ensures
-            (c.in_ok-worked.ensures o text t b (subst (λ (ws : List Word). Within text ws) (sym e) w)));
-      all = c.in_ok-tokens.ensures
+          (c.in_ok-worked.ensures o text t b (subst (λ (ws : List Word). Within text ws) (sym e) w)));
+      all = c.in_ok-tokens.ensures;
     }
