@@ -23,7 +23,10 @@ pub(crate) fn punctuator_len(chars: &[u8], at: usize) -> usize
 fn is_single(c: u8) -> bool
     ensures { result ≡ is_single c }
 {
-    matches!(c, b'(' | b')' | b',' | b';' | b'[' | b']' | b'{' | b'}' | b'?' | b'~')
+    matches!(
+        c,
+        b'(' | b')' | b',' | b';' | b'[' | b']' | b'{' | b'}' | b'?' | b'~'
+    )
 }
 
 /// The same, by the characters after it.

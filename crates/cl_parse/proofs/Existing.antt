@@ -38,13 +38,15 @@ bad_end tokens from l s =
     let low : from ≤ s.at = s.low in
     let most : s.at ≤ length tokens = s.within in
     ⊎_elim
-    (λ (k : s.at < length tokens).
-    (s.at + 1, record {
-      some = omega arith;
-      within = omega arith;
-      first = λ i m n. s.goes i m (omega arith);
-      last = λ i e n. let same : s.at ≡ i = omega arith in subst (λ (j : ℕ). is_semicolon tokens j ≡ true) same (s.ends k);
-    }))
+    (λ (k : s.at < length tokens). (
+      s.at + 1,
+      record {
+        some = omega arith;
+        within = omega arith;
+        first = λ i m n. s.goes i m (omega arith);
+        last = λ i e n. let same : s.at ≡ i = omega arith in subst (λ (j : ℕ). is_semicolon tokens j ≡ true) same (s.ends k);
+      },
+    ))
     (λ (k : length tokens ≤ s.at). (s.at, record { some = omega arith; within = most; first = λ i m n. s.goes i m (omega arith); last = λ i e n. absurd (omega arith) }))
     (cases_lt s.at (length tokens))
 

@@ -5,4 +5,5 @@ mod Branching
 mod Going
 mod Order
 mod Found
+mod Existing
 pub mod Unique

@@ -13,8 +13,8 @@ use Rattle.cl_cond.specs.declared.eval.IfValue.TheVariants.{Value, BadIf}
 use Rattle.cl_cond.specs.declared.mark.Condition.{Condition}
 use Rattle.cl_cond.specs.declared.mark.Condition.TheVariants.{If, IfDef, IfNDef, Elif, Else}
 use Rattle.cl_cond.specs.declared.mark.Mark.{Mark}
-use Rattle.cl_cond.specs.Lines.{is_hash}
-use Rattle.cl_pp.specs.Defined.{decided, is_ident, is_word, span_at, spread}
+use Rattle.cl_base.specs.Tokens.{is_hash, is_ident, is_word}
+use Rattle.cl_pp.specs.Defined.{decided, span_at, spread}
 
 abbrev pub diag : ℕ → ℕ → ℕ → Diag
 diag number from to = record { number = number; at = span_at from to; name = None }

@@ -11,7 +11,7 @@ ghost use Rattle.cl_pp.specs.code.Stacks.{tell};
 use crate::defined::decided;
 use crate::line::{alone_in, extra, rest_of};
 use crate::section::{Section, opens};
-use crate::token::{is_ident, span_at};
+use crate::token::span_at;
 use cl_base::{Diag, List, Mem, PpToken, Span, Token};
 use cl_cond::{Condition, IfValue, Part, eval_if};
 use std::alloc::Global;
@@ -106,7 +106,7 @@ fn has_name(rest: &[Token]) -> bool
     ensures { result ≡ has_name rest.now }
 {
     match rest.split_first() {
-        Some((token, _)) => is_ident(token),
+        Some((token, _)) => token.kind.is_ident(),
         None => false,
     }
 }

@@ -1,7 +1,9 @@
 //! What holds of every text, and of every section.
 
 ghost use Rattle.std.specs.Prelude.{◌≡◌, ◌&&◌, ℕ, List, ◌∷◌};
+ghost use Rattle.cl_base.specs.declared.token.Lexed.{Lexed};
 ghost use Rattle.cl_base.specs.declared.token.PpDone.{PpDone};
+ghost use Rattle.cl_lex.specs.Lexing.{Lexes};
 ghost use Rattle.cl_pp.specs.Activity.{Active, Passed, Question, says};
 ghost use Rattle.cl_pp.specs.Branching.{Arm, IsSection, IsWhole, behind, laid, none_held};
 ghost use Rattle.cl_pp.specs.Preprocessing.{Preprocesses};
@@ -9,6 +11,11 @@ ghost use Rattle.cl_pp.specs.Preprocessing.{Preprocesses};
 /// A text has one list of preprocessed tokens, and one list of faults.
 pub fn one_preprocessing()
     ensures { (text : List ℕ) (x y : PpDone) → Preprocesses text x → Preprocesses text y → x ≡ y }
+{}
+
+/// Every text that has tokens has a preprocessing.
+pub fn some_preprocessing()
+    ensures { (text : List ℕ) (lexed : Lexed) → Lexes text lexed → (done : PpDone) × Preprocesses text done }
 {}
 
 /// Of the branches of a section one is active at most: the first whose condition is fulfilled, where the section stands

@@ -4,7 +4,6 @@ ghost use Rattle.std.specs.Prelude.{◌≡◌, ◌++◌, OnOk};
 ghost use Rattle.cl_pp.specs.Lines.{is_free_text, line_strays, stray_number, strays, stray};
 
 use crate::line::{add, is_unread};
-use crate::token::is_hash;
 use cl_base::{Diag, Kind, List, Mem, Token, char_len};
 
 /// Adds the faults 2 to 4 of a line's tokens, unless they aren't looked at.
@@ -26,7 +25,7 @@ fn is_free_text(line: &[Token]) -> bool
         return false;
     };
     match rest.split_first() {
-        Some((name, _)) => is_hash(hash) && is_unread(name),
+        Some((name, _)) => hash.is_hash() && is_unread(name),
         None => false,
     }
 }

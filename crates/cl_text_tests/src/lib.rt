@@ -7,7 +7,11 @@ mod conditions;
 #[cfg(test)]
 mod copies;
 #[cfg(test)]
+mod large;
+#[cfg(test)]
 mod lexing;
+#[cfg(test)]
+mod one_tokens;
 #[cfg(test)]
 mod places;
 #[cfg(test)]
