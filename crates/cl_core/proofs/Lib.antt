@@ -24,3 +24,4 @@ pub mod Numbering
 pub mod Started
 pub mod Finishing
 pub mod JobsOut
+mod Starting

@@ -34,6 +34,15 @@ pub started_number : (core : State) (i : Id) (path : List ℕ) (o : Option Doc) 
 started_number core i path None w e = absurd (cc)
 started_number core i path (Some doc) w e = ap number_in e
 
+id_in : Id → List Waiting → Id
+id_in i [] = i
+id_in i (w ∷ ws) = w.id
+
+pub started_id : (core : State) (i : Id) (path : List ℕ) (o : Option Doc) (w : Waiting) → w ∷ [] ≡ waiting_for core i path o → w.id ≡ i
+unfolding id_in
+started_id core i path None w e = absurd (cc)
+started_id core i path (Some doc) w e = ap (id_in i) e
+
 raised : (n m : ℕ) (ws : List Waiting) → n ≤ m → Below n ws → Below m ws
 raised n m [] le below = tt
 raised n m (w ∷ ws) le below = let lt : w.job.message < n = below.0 in (omega arith, raised n m ws le below.1)

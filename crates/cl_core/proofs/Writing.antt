@@ -6,9 +6,9 @@ use Rattle.std.specs.Str.{bytes_eq}
 use Rattle.cl_store.specs.Docs.{doc_at}
 use Rattle.cl_base.specs.declared.answer.Answer.{Answer}
 use Rattle.cl_query.specs.declared.job.Job.{Job}
-use Rattle.cl_query.specs.declared.query.Query.{Query}
-use Rattle.cl_query.specs.declared.query.Query.TheVariants.{Symbols}
-use Rattle.cl_query.specs.AnswerOf.{AnswerOf}
+use Rattle.cl_base.specs.declared.query.Query.{Query}
+use Rattle.cl_base.specs.declared.query.Query.TheVariants.{Symbols}
+use Rattle.cl_query.specs.AnswerOf.{AnswerOf, answer_of_any}
 use Rattle.cl_rpc.specs.declared.id.Id.{Id}
 use Rattle.cl_rpc.specs.declared.call.Call.{Call}
 use Rattle.cl_rpc.specs.declared.call.Call.TheVariants as call
@@ -31,6 +31,7 @@ use Rattle.cl_core.specs.Waiting.{same_id}
 use Rattle.cl_core.specs.Refusals.{out_of_memory}
 use Rattle.cl_core.specs.History.{said, refusal}
 use Rattle.cl_core.specs.Written.{before, id_of, IsOut, Tells, Writes}
+use Rattle.cl_core.specs.Settings.{no_settings}
 use Rattle.cl_core.specs.Deciding.{core_refusal, entry_of, reply_by, code_of, ended, ended_waiting, how_ended, replies_to_request, replies_of, started_by}
 use Rattle.cl_core.specs.Steps.{Takes, Replies, Completes, Stops, start_jobs, finish, finish_if, is_nil, pending_after, ending_after, left_after, first_ending, status_of}
 use Rattle.cl_core.specs.Standing.{past_of, Asks, StandsFor, frames_of}
@@ -195,7 +196,7 @@ message_writes messages old new p effects bytes next s takes w =
 
 -- what answers a job
 abbrev pub IsJobsOut : Job → How → Out → Type 0
-IsJobsOut job how.Answered o = (answer : Answer) × AnswerOf job.kind job.path job.text answer × (o ≡ out.Answer answer)
+IsJobsOut job how.Answered o = (answer : Answer) × AnswerOf job.kind job.config job.headers job.path job.text answer × (o ≡ out.Answer answer)
 IsJobsOut job how.Memory o = o ≡ out.Error out_of_memory
 IsJobsOut job how.Refused o = ⊥
 IsJobsOut job how.Cancelled o = ⊥
@@ -206,7 +207,13 @@ only_kind Symbols = refl
 
 job_out : (messages : List Parsed) (past : List Entry) (w : Waiting) (h : How) (o : Out) → Asks messages past w → IsJobsOut w.job h o
     → IsOut messages (before past w.job.message) (parsed.Request w.id (call.Symbols w.job.path)) h o
-job_out messages past w how.Answered o a is = (w.job.text, is.0, a.over, subst (λ (kind : Query). AnswerOf kind w.job.path w.job.text is.0) (only_kind w.job.kind) is.1, is.2)
+job_out messages past w how.Answered o a is = (
+  w.job.text,
+  is.0,
+  a.over,
+  subst (λ (kind : Query). AnswerOf kind no_settings [] w.job.path w.job.text is.0) (only_kind w.job.kind) (answer_of_any w.job.kind w.job.config no_settings w.job.headers [] w.job.path w.job.text is.0 is.1),
+  is.2,
+)
 job_out messages past w how.Memory o a is = is
 job_out messages past w how.Refused o a is = absurd is
 job_out messages past w how.Cancelled o a is = absurd is

@@ -15,7 +15,8 @@ use Rattle.cl_rpc.specs.declared.out.How.TheVariants as how
 use Rattle.cl_rpc.specs.declared.out.Out.{Out}
 use Rattle.cl_rpc.specs.declared.out.Out.TheVariants as out
 use Rattle.cl_rpc.specs.declared.out.Reply.{Reply}
-use Rattle.cl_query.specs.declared.query.Query.TheVariants.{Symbols}
+use Rattle.cl_base.specs.declared.query.Query.TheVariants.{Symbols}
+use Rattle.cl_core.specs.Settings.{no_settings}
 use Rattle.cl_core.specs.declared.core_state.Core.{Core}
 use Rattle.cl_core.specs.declared.event.Entry.{Entry}
 use Rattle.cl_core.specs.declared.event.Entry.TheVariants as entry
@@ -91,6 +92,8 @@ waiting_for core i path (Some doc) = record {
     path = path;
     version = doc.version;
     text = doc.text;
+    config = no_settings;
+    headers = [];
     kind = Symbols;
   };
 } ∷ []

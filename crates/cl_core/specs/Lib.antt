@@ -1,3 +1,4 @@
+pub mod Settings
 pub mod Waiting
 pub mod Refusals
 pub mod History

@@ -1,7 +1,8 @@
 -- What a journal writes.
 use Rattle.std.specs.Prelude.{◌≡◌, ℕ, ℤ, nat_eq, List, [], ◌∷◌, ◌++◌, if◌then◌else◌, Option, Some, None}
 use Rattle.cl_base.specs.declared.answer.Answer.{Answer}
-use Rattle.cl_query.specs.declared.query.Query.TheVariants.{Symbols}
+use Rattle.cl_base.specs.declared.query.Query.TheVariants.{Symbols}
+use Rattle.cl_core.specs.Settings.{no_settings}
 use Rattle.cl_query.specs.AnswerOf.{AnswerOf}
 use Rattle.cl_rpc.specs.declared.id.Id.{Id}
 use Rattle.cl_rpc.specs.declared.call.Call.TheVariants as call
@@ -37,7 +38,7 @@ abbrev pub IsAnswer : List Parsed → List Entry → Parsed → Out → Type 0
 IsAnswer messages past (parsed.Request i call.Initialize) o = o ≡ out.Capabilities
 IsAnswer messages past (parsed.Request i call.Shutdown) o = o ≡ out.Null
 IsAnswer messages past (parsed.Request i (call.Symbols path)) o =
-    (text : List ℕ) × (answer : Answer) × (text_at messages past path ≡ Some text) × AnswerOf Symbols path text answer × (o ≡ out.Answer answer)
+    (text : List ℕ) × (answer : Answer) × (text_at messages past path ≡ Some text) × AnswerOf Symbols no_settings [] path text answer × (o ≡ out.Answer answer)
 IsAnswer messages past _ o = ⊥
 
 -- what a message that was received here is replied

@@ -80,7 +80,8 @@ impl Core {
         ensures { IfOk result (λ headers. (path : List ℕ) → known_at headers path ≡ None) }
     {
         let _core = self;
-        Ok(HeaderMap::new(alloc))
+        let headers = HeaderMap::new(alloc)?;
+        Ok(headers)
     }
 
     /// The entries, the oldest first; the session is over.

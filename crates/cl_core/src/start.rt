@@ -3,14 +3,16 @@ ghost use Rattle.cl_rpc.specs.declared.call.Parsed.TheVariants.{Request};
 ghost use Rattle.cl_store.specs.Docs.{doc_at};
 ghost use Rattle.cl_core.specs.Deciding.{core_refusal, waiting_for};
 ghost use Rattle.cl_core.specs.Numbered.{IsNumbered};
+ghost use Rattle.cl_core.specs.Settings.{no_settings};
 ghost use Rattle.cl_core.specs.Steps.{IsAsBefore, Takes};
 
 use crate::core_state::State;
 use crate::event::Effect;
 use crate::note::{note, settle};
 use crate::waiting::Waiting;
-use cl_base::{Duplicate, List, Mem, Memory, Path};
-use cl_query::{Job, Query};
+use cl_base::{Config, Duplicate, List, Mem, Memory, Path, Query};
+use cl_headers::HeaderMap;
+use cl_query::Job;
 use cl_rpc::{Call, Id};
 use std::alloc::Global;
 
@@ -29,14 +31,18 @@ pub fn start(alloc: Global, core: &mut State, id: &Id, path: &Path) -> Mem<List<
     let length = core.journal.len();
     let messages = core.messages;
     note(alloc, core, effects.as_slice())?;
-    if core.pending.push(alloc, waiting).is_err() {
-        core.journal.truncate(length);
-        core.messages = messages;
-        return Err(Memory);
+    match core.pending.push(alloc, waiting) {
+        Ok(_) => {
+            core.jobs = core.jobs.wrapping_add(1);
+            core.finished = false;
+            Ok(effects)
+        }
+        Err(Memory) => {
+            core.journal.truncate(length);
+            core.messages = messages;
+            Err(Memory)
+        }
     }
-    core.jobs = core.jobs.wrapping_add(1);
-    core.finished = false;
-    Ok(effects)
 }
 
 /// The request that starts to wait, and its job over the document as it is.
@@ -49,6 +55,8 @@ fn waiting_for(alloc: Global, core: &State, id: &Id, path: &Path) -> Mem<Option<
     let id = id.duplicate(alloc)?;
     let path = path.duplicate(alloc)?;
     let text = doc.text.duplicate(alloc)?;
+    let config = no_settings(alloc)?;
+    let headers = HeaderMap::new(alloc)?;
     let job = Job {
         number: core.jobs,
         message: core.messages,
@@ -56,7 +64,18 @@ fn waiting_for(alloc: Global, core: &State, id: &Id, path: &Path) -> Mem<Option<
         version: doc.version,
         path,
         text,
+        config,
+        headers,
         kind: Query::Symbols,
     };
     Ok(Some(Waiting { id, job }))
+}
+
+/// The settings of a session: no folder, and no macro.
+#[tactic(auto, unfolding(crate::specs::Settings::no_settings))]
+fn no_settings(alloc: Global) -> Mem<Config>
+    ensures { IfOk result (λ config. config ≡ no_settings) }
+{
+    let config = Config::new(alloc, List::new(alloc), List::new(alloc))?;
+    Ok(config)
 }

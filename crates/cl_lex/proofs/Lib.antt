@@ -1,7 +1,7 @@
 mod Characters
 mod Classes
 mod Decided
-mod Exists
+pub mod Exists
 mod HeldFacts
 mod Joining
 mod Lexed

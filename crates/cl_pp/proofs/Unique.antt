@@ -14,7 +14,7 @@ use Rattle.cl_cond.proofs.Unique.{one_grouping}
 use Rattle.cl_pp.specs.Activity.{Passed}
 use Rattle.cl_pp.specs.Branches.{IsWorked, works}
 use Rattle.cl_pp.specs.Defined.{decided}
-use Rattle.cl_pp.specs.Lines.{line_of, rest_of, spread_fault}
+use Rattle.cl_pp.specs.Lines.{line_of, rest_of, spread_fault, told}
 use Rattle.cl_pp.specs.Preprocessing.{AreValues, Preprocesses, answers, faults_from, open_comments, passed, tokens_from}
 
 one_worked : (b : Bool) (line : List Token) (x y : Option IfValue) → IsWorked b line x → IsWorked b line y → x ≡ y
@@ -45,7 +45,7 @@ one_preprocessed text x y a b =
     (subst (λ (ms : List Mark). AreValues a.lexed.tokens [] ms b.values) (sym (ap (λ (g : Groups). g.marks) groups)) (subst (λ (l : Lexed). AreValues l.tokens [] b.groups.marks b.values) (sym lexed) b.evaluated)) in
     let tokens : tokens_from a.lexed.tokens [] a.groups.marks a.values ≡ tokens_from b.lexed.tokens [] b.groups.marks b.values =
     λ i. tokens_from (lexed i).tokens [] (groups i).marks (values i) in
-    let faults : (open_comments a.lexed.faults ++ (map spread_fault a.groups.faults ++ faults_from a.lexed.tokens [] a.groups.marks a.values))
-    ≡ (open_comments b.lexed.faults ++ (map spread_fault b.groups.faults ++ faults_from b.lexed.tokens [] b.groups.marks b.values)) =
-    λ i. open_comments (lexed i).faults ++ (map spread_fault (groups i).faults ++ faults_from (lexed i).tokens [] (groups i).marks (values i)) in
+    let faults : (open_comments a.lexed.faults ++ (map spread_fault a.groups.faults ++ faults_from a.lexed.tokens (told a.lexed.faults) [] a.groups.marks a.values))
+    ≡ (open_comments b.lexed.faults ++ (map spread_fault b.groups.faults ++ faults_from b.lexed.tokens (told b.lexed.faults) [] b.groups.marks b.values)) =
+    λ i. open_comments (lexed i).faults ++ (map spread_fault (groups i).faults ++ faults_from (lexed i).tokens (told (lexed i).faults) [] (groups i).marks (values i)) in
     λ i. record { tokens = (a.tokens ∙ tokens ∙ sym b.tokens) i; faults = (a.faults ∙ faults ∙ sym b.faults) i }

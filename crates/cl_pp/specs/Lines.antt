@@ -7,7 +7,6 @@ use Rattle.cl_base.specs.declared.token.Token.{Token}
 use Rattle.cl_base.specs.declared.token.PpToken.{PpToken}
 use Rattle.cl_base.specs.declared.token.Fault.{Fault}
 use Rattle.cl_base.specs.declared.token.Diag.{Diag}
-use Rattle.cl_base.specs.Characters.{char_len}
 use Rattle.cl_cond.specs.declared.eval.IfValue.{IfValue}
 use Rattle.cl_cond.specs.declared.eval.IfValue.TheVariants.{Value, BadIf}
 use Rattle.cl_cond.specs.declared.mark.Condition.{Condition}
@@ -45,27 +44,20 @@ spread_line line = map spread line
 abbrev pub plain_tokens : List Token → List PpToken
 plain_tokens line = if is_directive line then [] else spread_line line
 
--- ---- tokens that fit nothing (6.4p3)
+-- ---- what lexing tells
 
--- an Other token is a lone quote, a byte of no character, a null character, or no fault yet
-abbrev pub stray_number : List ℕ → Option ℕ
-stray_number [] = None
-stray_number (c ∷ cs) =
-    if c == 34 || c == 39 then Some 2 else
-    if char_len (c ∷ cs) 0 == 0 then Some 3 else
-    if c == 0 then Some 4 else None
+abbrev pub or_else : Option Fault → Option Fault → Option Fault
+or_else None other = other
+or_else (Some fault) other = Some fault
 
-abbrev pub at_token : Option ℕ → Token → List Diag
-at_token None token = []
-at_token (Some number) token = fault_at number token
+-- the one of these faults that begins at a byte
+abbrev pub told : List Fault → ℕ → Option Fault
+told [] at = None
+told (fault ∷ faults) at = or_else (told faults at) (if fault.from == at then Some fault else None)
 
-abbrev pub stray : Kind → Token → List Diag
-stray kind.Other token = at_token (stray_number token.text) token
-stray _ token = []
-
-abbrev pub strays : List Token → List Diag
-strays [] = []
-strays (token ∷ tokens) = stray token.kind token ++ strays tokens
+abbrev pub as_list : Option Fault → List Diag
+as_list None = []
+as_list (Some fault) = spread_fault fault ∷ []
 
 -- the tokens of `#error` and `#pragma` aren't looked at
 abbrev pub is_unread : Token → Bool
@@ -75,8 +67,18 @@ abbrev pub is_free_text : List Token → Bool
 is_free_text (hash ∷ name ∷ rest) = is_hash hash && is_unread name
 is_free_text _ = false
 
-abbrev pub line_strays : List Token → List Diag
-line_strays line = if is_free_text line then [] else strays line
+module _ (begins : ℕ → Option Fault) where
+  -- an Other token has the fault that begins where it does (6.4p3)
+  abbrev pub stray : Kind → Token → List Diag
+  stray kind.Other token = as_list (begins token.from)
+  stray _ token = []
+
+  abbrev pub strays : List Token → List Diag
+  strays [] = []
+  strays (token ∷ tokens) = stray token.kind token ++ strays tokens
+
+  abbrev pub line_strays : List Token → List Diag
+  line_strays line = if is_free_text line then [] else strays line
 
 -- ---- directives
 

@@ -15,21 +15,22 @@ use Rattle.cl_cond.specs.declared.mark.Part.TheVariants.{Line, Branch, End}
 use Rattle.cl_cond.specs.Sections.{GroupsOf, opens}
 use Rattle.cl_pp.specs.Activity.{Passed, Question, Active, Outer, says}
 use Rattle.cl_pp.specs.Branches.{IsWorked, held_by, works}
-use Rattle.cl_pp.specs.Lines.{branch_faults, extra, line_of, line_strays, plain_faults, plain_tokens, rest_of, spread_fault}
+use Rattle.cl_pp.specs.Lines.{branch_faults, extra, line_of, line_strays, plain_faults, plain_tokens, rest_of, spread_fault, told}
 
 -- the tokens of a line: those of an active text line, and none of a directive
 abbrev pub tokens_by : Part → Bool → List Token → List PpToken
 tokens_by Line active line = if active then plain_tokens line else []
 tokens_by _ active line = []
 
-abbrev pub if_looked_at : Bool → List Token → List Diag → List Diag
-if_looked_at looked line more = if looked then line_strays line ++ more else []
+module _ (begins : ℕ → Option Fault) where
+  abbrev pub if_looked_at : Bool → List Token → List Diag → List Diag
+  if_looked_at looked line more = if looked then line_strays begins line ++ more else []
 
--- the faults of a line; none is looked for in a group that is skipped
-abbrev pub faults_by : Part → (Question → Bool) → List Token → Option IfValue → List Diag
-faults_by Line answer line value = if_looked_at (answer Active) line (plain_faults line)
-faults_by End answer line value = if_looked_at (answer Outer) line (extra (rest_of line))
-faults_by (Branch c) answer line value = if_looked_at (answer (if opens c then Active else Outer)) line (branch_faults c line value)
+  -- the faults of a line: those of lexing, and its own; none counts in a group that is skipped
+  abbrev pub faults_by : Part → (Question → Bool) → List Token → Option IfValue → List Diag
+  faults_by Line answer line value = if_looked_at (answer Active) line (plain_faults line)
+  faults_by End answer line value = if_looked_at (answer Outer) line (extra (rest_of line))
+  faults_by (Branch c) answer line value = if_looked_at (answer (if opens c then Active else Outer)) line (branch_faults c line value)
 
 module _ (tokens : List Token) where
   abbrev pub answers : List Passed → Question → Bool
@@ -52,10 +53,11 @@ module _ (tokens : List Token) where
   tokens_from past (mark ∷ marks) [] = []
   tokens_from past (mark ∷ marks) (value ∷ values) = tokens_by mark.part (answers past Active) (line_of tokens mark) ++ tokens_from (passed past mark value ∷ past) marks values
 
-  abbrev pub faults_from : List Passed → List Mark → List (Option IfValue) → List Diag
-  faults_from past [] values = []
-  faults_from past (mark ∷ marks) [] = []
-  faults_from past (mark ∷ marks) (value ∷ values) = faults_by mark.part (answers past) (line_of tokens mark) value ++ faults_from (passed past mark value ∷ past) marks values
+  abbrev pub faults_from : (ℕ → Option Fault) → List Passed → List Mark → List (Option IfValue) → List Diag
+  faults_from begins past [] values = []
+  faults_from begins past (mark ∷ marks) [] = []
+  faults_from begins past (mark ∷ marks) (value ∷ values) =
+      faults_by begins mark.part (answers past) (line_of tokens mark) value ++ faults_from begins (passed past mark value ∷ past) marks values
 
 -- a comment without an end is a fault wherever it stands
 abbrev pub open_comments : List Fault → List Diag
@@ -70,4 +72,4 @@ pub record Preprocesses (text : List ℕ) (done : PpDone) : Type 0 where
   pub values : List (Option IfValue)
   pub evaluated : AreValues lexed.tokens [] groups.marks values
   pub tokens : done.tokens ≡ tokens_from lexed.tokens [] groups.marks values
-  pub faults : done.faults ≡ open_comments lexed.faults ++ (map spread_fault groups.faults ++ faults_from lexed.tokens [] groups.marks values)
+  pub faults : done.faults ≡ open_comments lexed.faults ++ (map spread_fault groups.faults ++ faults_from lexed.tokens (told lexed.faults) [] groups.marks values)

@@ -1,6 +1,8 @@
 //! Preprocesses a file.
 
 ghost use Rattle.std.specs.Prelude.{◌≡◌, ◌≤◌, ◌++◌, [], length, map, reverse, true, IfOk, OnOk};
+ghost use Rattle.std.specs.Ordering.{nat_cmp};
+ghost use Rattle.std.specs.BTreeMap.{get};
 ghost use Rattle.cl_pp.specs.Activity.{Active};
 ghost use Rattle.cl_pp.specs.Branches.{IsWorked, held_by, works};
 ghost use Rattle.cl_pp.specs.Lines.{line_of, spread_fault};
@@ -11,11 +13,13 @@ ghost use Rattle.cl_pp.specs.code.Stacks.{Adds, stacked, tell, top_of};
 use crate::branch::{held, value};
 use crate::look::{line_faults, line_tokens};
 use crate::section::{Section, pass, top};
-use crate::token::span_at;
+use crate::stray::told;
+use crate::token::diag;
 use cl_base::{Diag, Fault, List, Mem, PpDone, Token};
 use cl_cond::{IfValue, Mark, groups};
 use cl_lex::lex;
 use std::alloc::Global;
+use std::collections::BTreeMap;
 
 /// The tokens of the active lines of a file, in order, and its faults (N1570 5.1.1.2 phases 1 to 4), where no macro is
 /// defined and no other file is entered. A directive gives no token. The faults, by their numbers:
@@ -43,9 +47,11 @@ pub fn preprocess(alloc: Global, text: &[u8]) -> Mem<PpDone>
         tokens: List::new(alloc),
         faults,
     };
+    let told = told(alloc, lexed.faults.as_slice())?;
     lines(
         alloc,
         lexed.tokens.as_slice(),
+        &told,
         groups.marks.as_slice(),
         &mut done,
     )?;
@@ -53,13 +59,19 @@ pub fn preprocess(alloc: Global, text: &[u8]) -> Mem<PpDone>
 }
 
 /// Adds the tokens and the faults of the lines of a file.
-fn lines(alloc: Global, tokens: &[Token], marks: &[Mark], done: &mut PpDone) -> Mem<()>
+fn lines(
+    alloc: Global,
+    tokens: &[Token],
+    told: &BTreeMap<u32, Fault>,
+    marks: &[Mark],
+    done: &mut PpDone,
+) -> Mem<()>
     requires { MarksLie 0 (length tokens.now) marks.now }
-    ensures { OnOk result (Adds tokens.now marks.now done.old done.new) }
+    ensures { OnOk result (Adds tokens.now (get nat_cmp told.now) marks.now done.old done.new) }
 {
     let mut sections = List::new(alloc);
     for mark in marks {
-        take_line(alloc, tokens, *mark, &mut sections, done)?;
+        take_line(alloc, tokens, told, *mark, &mut sections, done)?;
     }
     Ok(())
 }
@@ -68,6 +80,7 @@ fn lines(alloc: Global, tokens: &[Token], marks: &[Mark], done: &mut PpDone) -> 
 fn take_line(
     alloc: Global,
     tokens: &[Token],
+    told: &BTreeMap<u32, Fault>,
     mark: Mark,
     sections: &mut List<Section>,
     done: &mut PpDone,
@@ -75,13 +88,13 @@ fn take_line(
     requires { (mark.from ≤ mark.to) × (mark.to ≤ length tokens.now) }
     ensures value { IfOk result (λ value. IsWorked (works mark.part (tell (top_of (reverse sections.old)))) (line_of tokens.now mark) value) }
     ensures tokens { IfOk result (λ value. done.new.tokens ≡ done.old.tokens ++ tokens_by mark.part (tell (top_of (reverse sections.old)) Active) (line_of tokens.now mark)) }
-    ensures faults { IfOk result (λ value. done.new.faults ≡ done.old.faults ++ faults_by mark.part (tell (top_of (reverse sections.old))) (line_of tokens.now mark) value) }
+    ensures faults { IfOk result (λ value. done.new.faults ≡ done.old.faults ++ faults_by (get nat_cmp told.now) mark.part (tell (top_of (reverse sections.old))) (line_of tokens.now mark) value) }
     ensures sections { IfOk result (λ value. reverse sections.new ≡ stacked mark.part (held_by mark.part (line_of tokens.now mark) value) (reverse sections.old)) }
 {
     let line = &tokens[mark.from as usize..mark.to as usize];
     let here = top(sections.as_slice());
     let value = value(alloc, mark.part, here, line)?;
-    line_faults(alloc, &mut done.faults, mark.part, here, line, value)?;
+    line_faults(alloc, &mut done.faults, told, mark.part, here, line, value)?;
     line_tokens(alloc, &mut done.tokens, mark.part, here, line)?;
     pass(sections, mark.part, held(mark.part, line, value))?;
     Ok(value)
@@ -108,15 +121,4 @@ fn add_all(all: &mut List<Diag>, faults: &[Fault]) -> Mem<()>
         all.push(diag(fault))?;
     }
     Ok(())
-}
-
-/// A fault of the document.
-fn diag(fault: &Fault) -> Diag
-    ensures { result ≡ spread_fault fault.now }
-{
-    Diag {
-        number: fault.number,
-        at: span_at(fault.from, fault.to),
-        name: None,
-    }
 }

@@ -1,9 +1,7 @@
 //! What holds of every text, and of every section.
 
 ghost use Rattle.std.specs.Prelude.{◌≡◌, ◌&&◌, ℕ, List, ◌∷◌};
-ghost use Rattle.cl_base.specs.declared.token.Lexed.{Lexed};
 ghost use Rattle.cl_base.specs.declared.token.PpDone.{PpDone};
-ghost use Rattle.cl_lex.specs.Lexing.{Lexes};
 ghost use Rattle.cl_pp.specs.Activity.{Active, Passed, Question, says};
 ghost use Rattle.cl_pp.specs.Branching.{Arm, IsSection, IsWhole, behind, laid, none_held};
 ghost use Rattle.cl_pp.specs.Preprocessing.{Preprocesses};
@@ -13,9 +11,9 @@ pub fn one_preprocessing()
     ensures { (text : List ℕ) (x y : PpDone) → Preprocesses text x → Preprocesses text y → x ≡ y }
 {}
 
-/// Every text that has tokens has a preprocessing.
+/// Every text has a preprocessing.
 pub fn some_preprocessing()
-    ensures { (text : List ℕ) (lexed : Lexed) → Lexes text lexed → (done : PpDone) × Preprocesses text done }
+    ensures { (text : List ℕ) → (done : PpDone) × Preprocesses text done }
 {}
 
 /// Of the branches of a section one is active at most: the first whose condition is fulfilled, where the section stands

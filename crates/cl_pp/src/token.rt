@@ -2,9 +2,9 @@
 
 ghost use Rattle.std.specs.Prelude.{◌≡◌, IfOk};
 ghost use Rattle.cl_pp.specs.Defined.{span_at, spread};
-ghost use Rattle.cl_pp.specs.Lines.{is_header};
+ghost use Rattle.cl_pp.specs.Lines.{is_header, spread_fault};
 
-use cl_base::{Duplicate, Kind, Mem, PpToken, Span, Token};
+use cl_base::{Diag, Duplicate, Fault, Kind, Mem, PpToken, Span, Token};
 use std::alloc::Global;
 
 /// A place in the document, which is the file 0.
@@ -34,4 +34,15 @@ pub(crate) fn is_header(token: &Token) -> bool
     ensures { result ≡ is_header token.now.kind }
 {
     matches!(token.kind, Kind::Header)
+}
+
+/// A fault of the document.
+pub(crate) fn diag(fault: &Fault) -> Diag
+    ensures { result ≡ spread_fault fault.now }
+{
+    Diag {
+        number: fault.number,
+        at: span_at(fault.from, fault.to),
+        name: None,
+    }
 }

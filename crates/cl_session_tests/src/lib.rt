@@ -20,3 +20,5 @@ mod queries;
 mod replies;
 #[cfg(test)]
 mod sessions;
+#[cfg(test)]
+mod snapshots;

@@ -101,6 +101,7 @@ fn end_of(alloc: Global, jobs: &[Job], number: u8) -> Mem<Event> {
     };
     Ok(match run_job(alloc, job.duplicate(alloc)?) {
         JobAnswer::Done(done) => Event::Done(done),
+        JobAnswer::Need(need) => Event::NoMemory(need.job),
         JobAnswer::Memory(job) => Event::NoMemory(job),
     })
 }

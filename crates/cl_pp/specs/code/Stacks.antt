@@ -1,5 +1,6 @@
 -- How the code follows the sections that are open: their answers, the innermost first.
-use Rattle.std.specs.Prelude.{◌≡◌, Bool, true, false, not, ◌&&◌, List, [], ◌∷◌, ◌++◌, Option}
+use Rattle.std.specs.Prelude.{◌≡◌, ℕ, Bool, true, false, not, ◌&&◌, List, [], ◌∷◌, ◌++◌, Option}
+use Rattle.cl_base.specs.declared.token.Fault.{Fault}
 use Rattle.cl_base.specs.declared.token.Token.{Token}
 use Rattle.cl_base.specs.declared.token.PpDone.{PpDone}
 use Rattle.cl_cond.specs.declared.eval.IfValue.{IfValue}
@@ -42,8 +43,8 @@ stacked End held stack = below stack
 stacked (Branch c) held stack = under (opens c) held stack
 
 -- what the lines add to what is there
-pub record Adds (tokens : List Token) (marks : List Mark) (old new : PpDone) : Type 0 where
+pub record Adds (tokens : List Token) (begins : ℕ → Option Fault) (marks : List Mark) (old new : PpDone) : Type 0 where
   pub values : List (Option IfValue)
   pub evaluated : AreValues tokens [] marks values
   pub tokens_are : new.tokens ≡ old.tokens ++ tokens_from tokens [] marks values
-  pub faults_are : new.faults ≡ old.faults ++ faults_from tokens [] marks values
+  pub faults_are : new.faults ≡ old.faults ++ faults_from tokens begins [] marks values
