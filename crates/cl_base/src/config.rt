@@ -14,14 +14,14 @@ use std::marker::Model;
 use std::sync::Arc;
 
 /// A macro that is defined before a text begins: its name, and its replacement list as text.
-#[derive(Debug, Drop)]
+#[derive(Debug, Drop, PartialEq, Eq)]
 pub struct Define {
     pub name: Name,
     pub text: Text,
 }
 
 /// What a config says: the folders in which headers are looked for, in order, and the macros that are defined, in order.
-#[derive(Debug, Drop)]
+#[derive(Debug, Drop, PartialEq, Eq)]
 pub struct Settings {
     pub includes: List<Path>,
     pub defines: List<Define>,
@@ -47,8 +47,7 @@ impl Model for Config {
 impl Config {
     /// A config of these folders and these macros.
     pub fn new(alloc: Global, includes: List<Path>, defines: List<Define>) -> Mem<Config>
-        ensures includes { IfOk result (λ config. config.includes ≡ includes) }
-        ensures defines { IfOk result (λ config. config.defines ≡ defines) }
+        ensures { IfOk result (λ config. config ≡ record { includes = includes; defines = defines }) }
     {
         let settings = Arc::new(alloc, Settings { includes, defines })?;
         Ok(Config { settings })
@@ -66,6 +65,13 @@ impl Config {
         ensures { result.now ≡ self.now.defines }
     {
         &self.settings.defines
+    }
+
+    /// Whether the settings are the same. It takes no memory, and time linear in what the settings say.
+    pub fn same(&self, other: &Config) -> bool
+        ensures { IsTrue result ↔ (self.now ≡ other.now) }
+    {
+        *self.settings == *other.settings
     }
 }
 

@@ -5,13 +5,14 @@ ghost use Rattle.std.specs.Prelude.{◌≡◌, ◌<◌, ◌+◌, ◌∷◌, [], 
 ghost use Rattle.std.specs.List.{AllByRecursion, list_any};
 ghost use Rattle.std.specs.Option.{option_copied};
 ghost use Rattle.cl_core.specs.declared.waiting.Waiting.{Waiting};
-ghost use Rattle.cl_core.specs.Waiting.{has_id, is_meant};
-ghost use Rattle.cl_core.specs.Indexes.{number_of, found_in};
-ghost use Rattle.cl_core.specs.Steps.{is_nil};
+ghost use Rattle.cl_core.specs.Waiting.{has_id, is_meant, number_of};
+ghost use Rattle.cl_core.specs.Indexes.{found_in};
+ghost use Rattle.cl_core.specs.Steps.{begun_again, is_nil};
 
 use crate::index::{Documents, Ids};
 use crate::waiting::{Waiting, Which};
 use cl_base::{Mem, Memory};
+use cl_headers::HeaderMap;
 use cl_query::Job;
 use cl_rpc::Id;
 use std::alloc::Global;
@@ -184,6 +185,17 @@ impl Pending {
         if let Some(waiting) = self.waiting.remove(&message) {
             self.ids.remove(&waiting.id);
             self.documents.remove(&waiting.job.path, message);
+        }
+    }
+
+    /// Begins the job of the request that this message made again, with this number and mark and over these headers.
+    pub fn begin_again(&mut self, message: u64, number: u64, mark: u64, headers: HeaderMap)
+        ensures { self.new ≡ begun_again message number mark headers self.old }
+    {
+        if let Some(waiting) = self.waiting.get_mut(&message) {
+            waiting.job.number = number;
+            waiting.job.mark = mark;
+            waiting.job.headers = headers;
         }
     }
 

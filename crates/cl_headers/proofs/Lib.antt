@@ -1,1 +1,2 @@
 mod Put
+mod Same

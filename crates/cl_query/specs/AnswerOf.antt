@@ -12,8 +12,10 @@ use Rattle.cl_base.specs.declared.token.PpToken.{PpToken}
 use Rattle.cl_pp.specs.Preprocessing.{Preprocesses}
 use Rattle.cl_parse.specs.declared.item.Item.{Item}
 use Rattle.cl_parse.specs.Items.{ItemsOf}
-use Rattle.cl_query.specs.declared.query.Query.{Query}
-use Rattle.cl_query.specs.declared.query.Query.TheVariants.{Symbols}
+use Rattle.cl_base.specs.declared.query.Query.{Query}
+use Rattle.cl_base.specs.declared.query.Query.TheVariants.{Symbols}
+use Rattle.cl_base.specs.declared.config.Settings.{Settings}
+use Rattle.cl_headers.specs.Headers.{Headers}
 use Rattle.cl_query.specs.Symbols.{symbols_in}
 
 -- the symbols of a text are those of its items, which are those of its tokens after preprocessing
@@ -24,20 +26,36 @@ pub record AreSymbolsOf (text : List ℕ) (symbols : List Symbol) : Type 0 where
   pub parses : ItemsOf done.tokens items
   pub listed : symbols ≡ symbols_in text done.tokens items
 
--- the answer of a query about the text at a path
-pub AnswerOf : Query → List ℕ → List ℕ → Answer → Type 0
-AnswerOf Symbols path text (Listed symbols) = ∥ AreSymbolsOf text symbols ∥₁
+-- the answer of a query about the text at a path, under these settings and with these headers
+pub AnswerOf : Query → Settings → Headers → List ℕ → List ℕ → Answer → Type 0
+AnswerOf Symbols config headers path text (Listed symbols) = ∥ AreSymbolsOf text symbols ∥₁
 
 -- it holds in one way at most
-pub AnswerOf-prop : (kind : Query) (path text : List ℕ) (answer : Answer) → IsProp (AnswerOf kind path text answer)
+pub AnswerOf-prop : (kind : Query) (config : Settings) (headers : Headers) (path text : List ℕ) (answer : Answer) → IsProp (AnswerOf kind config headers path text answer)
 unfolding AnswerOf
-AnswerOf-prop Symbols path text (Listed symbols) = ∥∥₁_prop
+AnswerOf-prop Symbols config headers path text (Listed symbols) = ∥∥₁_prop
 
-pub answer_of_symbols : (path text : List ℕ) (done : PpDone) (items : List Item) (symbols : List Symbol)
-    → Preprocesses text done → ItemsOf done.tokens items → symbols ≡ symbols_in text done.tokens items → AnswerOf Symbols path text (Listed symbols)
+-- the first header that the answer depends on and of which nothing is known: none, since no directive is followed into
+-- another file
+pub NeedsOf : Query → Settings → Headers → List ℕ → List ℕ → List ℕ → Type 0
+NeedsOf Symbols config headers path text needed = ⊥
+
+-- it holds in one way at most
+pub NeedsOf-prop : (kind : Query) (config : Settings) (headers : Headers) (path text needed : List ℕ) → IsProp (NeedsOf kind config headers path text needed)
+unfolding NeedsOf
+NeedsOf-prop Symbols config headers path text needed = λ x y. absurd x
+
+pub answer_of_symbols : (config : Settings) (headers : Headers) (path text : List ℕ) (done : PpDone) (items : List Item) (symbols : List Symbol)
+    → Preprocesses text done → ItemsOf done.tokens items → symbols ≡ symbols_in text done.tokens items → AnswerOf Symbols config headers path text (Listed symbols)
 unfolding AnswerOf
-answer_of_symbols path text done items symbols preprocessed parses listed =
+answer_of_symbols config headers path text done items symbols preprocessed parses listed =
     ∣ record { done = done; items = items; preprocessed = preprocessed; parses = parses; listed = listed } ∣₁
+
+-- neither the settings nor the headers matter, since no directive is followed into another file
+pub answer_of_any : (kind : Query) (config other : Settings) (headers others : Headers) (path text : List ℕ) (answer : Answer)
+    → AnswerOf kind config headers path text answer → AnswerOf kind other others path text answer
+unfolding AnswerOf
+answer_of_any Symbols config other headers others path text (Listed symbols) a = a
 
 -- where a text has one list of preprocessed tokens, and they have one list of items, it has one list of symbols
 module _ (one_done : (text : List ℕ) (x y : PpDone) → Preprocesses text x → Preprocesses text y → x ≡ y)
@@ -48,7 +66,7 @@ module _ (one_done : (text : List ℕ) (x y : PpDone) → Preprocesses text x �
       let items : a.items ≡ b.items = one_parse b.done.tokens a.items b.items (subst (λ (d : PpDone). ItemsOf d.tokens a.items) done a.parses) b.parses in
       a.listed ∙ ap (λ (d : PpDone). symbols_in text d.tokens a.items) done ∙ ap (symbols_in text b.done.tokens) items ∙ sym b.listed
 
-  pub one_answer_by : (kind : Query) (path text : List ℕ) (x y : Answer) → AnswerOf kind path text x → AnswerOf kind path text y → x ≡ y
+  pub one_answer_by : (kind : Query) (config : Settings) (headers : Headers) (path text : List ℕ) (x y : Answer) → AnswerOf kind config headers path text x → AnswerOf kind config headers path text y → x ≡ y
   unfolding AnswerOf
-  one_answer_by Symbols path text (Listed xs) (Listed ys) a b =
+  one_answer_by Symbols config headers path text (Listed xs) (Listed ys) a b =
       ap Listed (∥∥₁_elim a (Coded-set (coded_list the_row.coded) xs ys) (λ p. ∥∥₁_elim b (Coded-set (coded_list the_row.coded) xs ys) (λ q. one_list text xs ys p q)))

@@ -1,3 +1,4 @@
 pub mod Symbols
 pub mod AnswerOf
+pub mod Unknowns
 pub mod Worked

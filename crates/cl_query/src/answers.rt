@@ -4,16 +4,15 @@ ghost use Rattle.std.specs.Prelude.{IfOk};
 ghost use Rattle.cl_query.specs.AnswerOf.{AnswerOf};
 
 use crate::job::Job;
-use crate::query::Query;
 use crate::symbols::symbols;
-use cl_base::{Answer, Mem};
+use cl_base::{Answer, Mem, Query};
 use cl_parse::items;
 use cl_pp::preprocess;
 use std::alloc::Global;
 
 /// The answer of a job.
 pub(crate) fn answer_of(alloc: Global, job: &Job) -> Mem<Answer>
-    ensures { IfOk result (λ answer. AnswerOf job.now.kind job.now.path job.now.text answer) }
+    ensures { IfOk result (λ answer. AnswerOf job.now.kind job.now.config job.now.headers job.now.path job.now.text answer) }
 {
     match job.kind {
         Query::Symbols => {

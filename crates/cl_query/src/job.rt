@@ -2,13 +2,14 @@
 
 ghost use Rattle.std.specs.Prelude.{◌≡◌, ◌↔◌, IsTrue};
 
-use crate::query::Query;
-use cl_base::{Duplicate, Mem, Path, Text};
+use cl_base::{Config, Duplicate, Mem, Path, Query, Text};
+use cl_headers::HeaderMap;
 use std::alloc::Global;
 
 /// A query with all that its answer depends on. `number` names the job, `message` is the number of the message that it
 /// works for, `mark` is the length of the journal when its snapshot was taken, `path` and `version` are the
-/// document's, and `text` is the document's text at that time.
+/// document's, `text` is the document's text at that time, `config` is the session's, and `headers` is what was known
+/// of headers at the mark. Copies share the text, the config and the headers.
 #[derive(Drop)]
 pub struct Job {
     pub number: u64,
@@ -17,11 +18,13 @@ pub struct Job {
     pub path: Path,
     pub version: i64,
     pub text: Text,
+    pub config: Config,
+    pub headers: HeaderMap,
     pub kind: Query,
 }
 
 impl Job {
-    /// Whether this is the same job as the other.
+    /// Whether this is the same job as the other. It takes no memory, and time linear in what the two hold.
     pub fn same(&self, other: &Job) -> bool
         ensures { IsTrue result ↔ (self.now ≡ other.now) }
     {
@@ -32,6 +35,8 @@ impl Job {
             && self.kind == other.kind
             && self.path == other.path
             && self.text == other.text
+            && self.config.same(&other.config)
+            && self.headers.same(&other.headers)
     }
 }
 
@@ -39,6 +44,8 @@ impl Duplicate for Job {
     fn duplicate(&self, alloc: Global) -> Mem<Job> {
         let path = self.path.duplicate(alloc)?;
         let text = self.text.duplicate(alloc)?;
+        let config = self.config.duplicate(alloc)?;
+        let headers = self.headers.duplicate(alloc)?;
         Ok(Job {
             number: self.number,
             message: self.message,
@@ -46,6 +53,8 @@ impl Duplicate for Job {
             path,
             version: self.version,
             text,
+            config,
+            headers,
             kind: self.kind,
         })
     }

@@ -2,10 +2,12 @@
 
 ghost use Rattle.std.specs.Prelude.{◌≡◌, ℕ, List};
 ghost use Rattle.cl_base.specs.declared.answer.Answer.{Answer};
-ghost use Rattle.cl_query.specs.declared.query.Query.{Query};
+ghost use Rattle.cl_base.specs.declared.query.Query.{Query};
+ghost use Rattle.cl_base.specs.declared.config.Settings.{Settings};
+ghost use Rattle.cl_headers.specs.Headers.{Headers};
 ghost use Rattle.cl_query.specs.AnswerOf.{AnswerOf};
 
-/// A query about a text has one answer.
+/// A query about a text has one answer under the same settings and with the same headers.
 pub fn one_answer()
-    ensures { (kind : Query) (path text : List ℕ) (x y : Answer) → AnswerOf kind path text x → AnswerOf kind path text y → x ≡ y }
+    ensures { (kind : Query) (config : Settings) (headers : Headers) (path text : List ℕ) (x y : Answer) → AnswerOf kind config headers path text x → AnswerOf kind config headers path text y → x ≡ y }
 {}

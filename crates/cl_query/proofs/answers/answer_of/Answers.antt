@@ -10,7 +10,7 @@ symbols-requires-clause-lie c = subst (λ (ts : List PpToken). LieWithin (length
 
 pub returns : goal.returns
 returns c =
-    found c.args.job.now.kind c.args.job.now.path c.args.job.now.text c.bytes-text.result.now c.in_ok-done.done c.as_slice.result.now c.as_slice-2.result.now
+    found c.args.job.now.kind c.args.job.now.config c.args.job.now.headers c.args.job.now.path c.args.job.now.text c.bytes-text.result.now c.in_ok-done.done c.as_slice.result.now c.as_slice-2.result.now
     c.in_ok-items.items c.as_slice-3.result.now c.in_ok-symbols.symbols
     c.bytes-text.ensures.value c.as_slice.ensures.value c.as_slice-2.ensures.value c.as_slice-3.ensures.value
     c.in_ok-done.ensures.done c.in_ok-items.ensures c.in_ok-symbols.ensures

@@ -1,0 +1,1 @@
+-- The history says what the standard says.

@@ -1,0 +1,4 @@
+pub mod Times
+pub mod Once
+pub mod Accepting
+pub mod Accepted
