@@ -20,10 +20,11 @@ use Rattle.cl_rpc.specs.declared.id.Id.TheVariants as id
 use Rattle.cl_core.specs.declared.waiting.Waiting.{Waiting}
 use Rattle.cl_core.specs.declared.index.Ids.{Ids}
 use Rattle.cl_core.specs.declared.index.Documents.{Documents}
-use Rattle.cl_core.specs.History.{without}
-use Rattle.cl_core.specs.Waiting.{same_id, has_id}
+use Rattle.cl_history.specs.History.{without}
+use Rattle.cl_rpc.specs.Classes.{same_id}
+use Rattle.cl_core.specs.Waiting.{has_id, number_of}
 use Rattle.cl_core.specs.Steps.{is_nil}
-use Rattle.cl_core.specs.Indexes.{IsIndexed, number_of, message_by, messages_on, found_in}
+use Rattle.cl_core.specs.Indexes.{IsIndexed, message_by, messages_on, found_in}
 use Rattle.cl_core.proofs.Putting.{greater, is_at_number, same_bytes}
 use Rattle.cl_core.proofs.Waits.{map-filter, one_of, all_left}
 

@@ -96,29 +96,33 @@ pub record Asks (given : Given) (past : List Entry) (w : Waiting) : Type 0 where
   pub initialised : is_initialised given past ≡ true
 
 -- the request that awaits a read is pending, and its job needs the path, which is unknown
-pub record AwaitsSo (given : Given) (core : Core) (a : Awaited) : Type 0 where
+pub record AwaitsSo (core : Core) (a : Awaited) : Type 0 where
   pub waiting : Waiting
   pub waits : Contains core.pending waiting
   pub works_for : waiting.job.message ≡ a.message
   pub needs_it : NeedsOf waiting.job.kind waiting.job.config waiting.job.headers waiting.job.path waiting.job.text a.path
   pub is_unknown : known_at core.headers a.path ≡ None
 
--- the core's facts are those of its journal, for what the session was given
-pub record StandsFor (given : Given) (core : Core) : Type 0 where
+-- the core's facts are those of this past, for what the session was given
+pub record StandsAt (given : Given) (core : Core) (past : List Entry) : Type 0 where
   pub config : core.config ≡ given.config
-  pub initialised : core.initialised ≡ is_initialised given (past_of core)
-  pub shut_down : core.shut_down ≡ is_shut_down given (past_of core)
+  pub initialised : core.initialised ≡ is_initialised given past
+  pub shut_down : core.shut_down ≡ is_shut_down given past
   pub once_initialised : core.shut_down ≡ true → core.initialised ≡ true
-  pub texts : (path : List ℕ) → texts_of core.docs path ≡ text_at given (past_of core) path
-  pub versions : (path : List ℕ) → versions_of core.docs path ≡ version_at given (past_of core) path
-  pub headers : AreHeadersAt given (past_of core) core.headers
-  pub count : core.messages ≡ received (past_of core)
-  pub reads : core.loads ≡ loaded (past_of core)
-  pub waiting : map number_of core.pending ≡ pending given (past_of core)
-  pub asks : AllByRecursion (Asks given (past_of core)) core.pending
-  pub awaits : (a : Awaited) → core.awaited ≡ Some a → AwaitsSo given core a
-  pub follow : AllFollow NeedsOf given (past_of core)
-  pub none_due : owed given (past_of core) ≡ []
+  pub texts : (path : List ℕ) → texts_of core.docs path ≡ text_at given past path
+  pub versions : (path : List ℕ) → versions_of core.docs path ≡ version_at given past path
+  pub headers : AreHeadersAt given past core.headers
+  pub count : core.messages ≡ received past
+  pub reads : core.loads ≡ loaded past
+  pub waiting : map number_of core.pending ≡ pending given past
+  pub asks : AllByRecursion (Asks given past) core.pending
+  pub awaits : (a : Awaited) → core.awaited ≡ Some a → AwaitsSo core a
+  pub follow : AllFollow NeedsOf given past
+  pub none_due : owed given past ≡ []
+
+-- they are those of its journal
+abbrev pub StandsFor : Given → Core → Type 0
+StandsFor given core = StandsAt given core (past_of core)
 
 -- an event that the core hears is the next one: its message, or its read
 abbrev pub IsNextOf : Given → Core → Event → Type 0

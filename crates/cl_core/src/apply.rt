@@ -20,10 +20,10 @@ use std::alloc::Global;
 
 /// Applies what was decided of a message, and tells the effects in order, or changes nothing.
 pub fn apply(alloc: Global, core: &mut State, decision: Decision<'_>) -> Mem<List<Effect>>
-    requires free { AllByRecursion (λ (waiting : Waiting). list_any (has_id waiting.id) core.old.pending ≡ false) (started_in decision.entry.work) }
-    requires above { AllByRecursion (λ (waiting : Waiting). AllByRecursion (λ (other : Waiting). other.job.message < waiting.job.message) core.old.pending) (started_in decision.entry.work) }
-    requires apart { (started_in decision.entry.work ≡ []) ⊎ (end_behind decision.entry.ends ≡ None) }
-    requires ending { IsEnding decision.entry.ends }
+    requires free { AllByRecursion (λ (waiting : Waiting). list_any (has_id waiting.id) core.old.pending ≡ false) (started_in decision.work) }
+    requires above { AllByRecursion (λ (waiting : Waiting). AllByRecursion (λ (other : Waiting). other.job.message < waiting.job.message) core.old.pending) (started_in decision.work) }
+    requires apart { (started_in decision.work ≡ []) ⊎ (end_behind decision.ends ≡ None) }
+    requires ending { IsEnding decision.ends }
     ensures ok { IfOk result (λ effects. Applies core.old decision.entry core.new effects) }
     ensures err { OnErr result (core.new ≡ core.old) }
 {
@@ -65,8 +65,8 @@ pub fn apply(alloc: Global, core: &mut State, decision: Decision<'_>) -> Mem<Lis
 
 /// Whether no request waits where these are ended and this work is begun.
 fn none_left(pending: &Pending, ends: Option<Which<'_>>, work: &Work<'_>) -> bool
-    requires apart { (started_in work.now ≡ []) ⊎ (end_behind ends.entry ≡ None) }
-    requires ending { IsEnding ends.entry }
+    requires apart { (started_in work.now ≡ []) ⊎ (end_behind ends ≡ None) }
+    requires ending { IsEnding ends }
     ensures { result ≡ is_nil (others_than (end_behind ends.entry) pending.now ++ started_in work.now) }
 {
     if let Work::Starts(_) = work {
@@ -101,8 +101,8 @@ fn jobs_after(jobs: u64, work: &Work<'_>) -> Option<u64>
 
 /// Begins the work of a message, or changes nothing.
 fn begin(alloc: Global, docs: &mut Docs, pending: &mut Pending, work: Work<'_>) -> Mem<()>
-    requires free { AllByRecursion (λ (waiting : Waiting). list_any (has_id waiting.id) pending.old ≡ false) (started_in work.entry) }
-    requires above { AllByRecursion (λ (waiting : Waiting). AllByRecursion (λ (other : Waiting). other.job.message < waiting.job.message) pending.old) (started_in work.entry) }
+    requires free { AllByRecursion (λ (waiting : Waiting). list_any (has_id waiting.id) pending.old ≡ false) (started_in work) }
+    requires above { AllByRecursion (λ (waiting : Waiting). AllByRecursion (λ (other : Waiting). other.job.message < waiting.job.message) pending.old) (started_in work) }
     ensures docs { OnOk result (Edits docs.old work.entry docs.new) }
     ensures pending { OnOk result (pending.new ≡ pending.old ++ started_in work.entry) }
     ensures err { OnErr result (docs.new ≡ docs.old) }
@@ -129,7 +129,7 @@ fn begin(alloc: Global, docs: &mut Docs, pending: &mut Pending, work: Work<'_>) 
 
 /// Lets the requests go that are ended.
 fn release(pending: &mut Pending, ends: Option<Which<'_>>)
-    requires { IsEnding ends.entry }
+    requires { IsEnding ends }
     ensures { pending.new ≡ others_than (end_behind ends.entry) pending.old }
 {
     if let Some(which) = ends {

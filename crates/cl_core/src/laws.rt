@@ -6,6 +6,7 @@ ghost use Rattle.cl_history.specs.declared.entry.Entry.{Entry};
 ghost use Rattle.cl_history.specs.Given.{Given};
 ghost use Rattle.cl_history.specs.Legal.{IsLegal};
 ghost use Rattle.cl_history.specs.Once.{AreOnce};
+ghost use Rattle.cl_history.specs.Accepted.{IsInStandardWords};
 ghost use Rattle.cl_core.specs.declared.core_state.Core.{Core};
 ghost use Rattle.cl_core.specs.Runs.{HasRun, Put, Runs, effects_of};
 ghost use Rattle.cl_core.specs.Ends.{EndsOnce};
@@ -15,6 +16,12 @@ ghost use Rattle.cl_core.specs.Standing.{IsIdle, StandsFor, journal_of};
 /// In a legal journal no message gets two replies, and once no query is pending each request has one.
 pub fn one_reply()
     ensures { (given : Given) (past : List Entry) → IsLegal NeedsOf given past → AreOnce given past }
+{}
+
+/// In a legal journal the session is initialised where an `initialize` was accepted, it is shut down where a `shutdown`
+/// was, and the queries that are pending are those that were accepted and have no reply.
+pub fn standard_words()
+    ensures { (given : Given) (past : List Entry) → IsLegal NeedsOf given past → IsInStandardWords given past }
 {}
 
 /// Whatever events a new core takes, with memory or without: its journal is legal, no message got two replies, and the

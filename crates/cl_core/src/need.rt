@@ -2,13 +2,13 @@
 
 ghost use Rattle.std.specs.Prelude.{◌≡◌, ◌⊎◌, ◌∷◌, [], ◌++◌, ◌+◌, Some, IfOk, OnErr, Contains, length};
 ghost use Rattle.cl_core.specs.declared.waiting.Waiting.{Waiting};
-ghost use Rattle.cl_core.specs.Steps.{IsLost, IsStale, Loads, Needs, StartsAgain, again};
+ghost use Rattle.cl_core.specs.Steps.{IsLost, IsStale, Loads, Needs, StartsAgain};
 
 use crate::core_state::{Awaited, State};
 use crate::event::Effect;
 use crate::headers::with_read;
+use crate::pending::job_again;
 use cl_base::{Duplicate, List, Mem, Memory, Path, Read};
-use cl_headers::HeaderMap;
 use cl_history::Entry;
 use cl_query::{Job, Need};
 use std::alloc::Global;
@@ -46,9 +46,9 @@ fn start_again(alloc: Global, core: &mut State, job: Job) -> Mem<List<Effect>>
     let mark = core.journal.len() as u64;
     let message = job.message;
     let headers = core.headers.duplicate(alloc)?;
-    let job = begun_again(job, core.jobs, mark, headers.duplicate(alloc)?);
+    let job = job_again(job, core.jobs, mark, headers.duplicate(alloc)?);
     let effects = start_of(alloc, job)?;
-    core.pending.begin_again(message, core.jobs, mark, headers);
+    core.pending.begin_again(alloc, message, core.jobs, mark, &headers)?;
     core.jobs = jobs;
     Ok(effects)
 }
@@ -83,44 +83,19 @@ pub fn loaded(alloc: Global, core: &mut State, message: u64, path: &Path, read: 
     let headers = core.headers.duplicate(alloc)?;
     let headers = with_read(alloc, headers, path, read)?;
     let mark = core.journal.len() as u64 + 1;
-    let job = begun_again(job, core.jobs, mark, headers.duplicate(alloc)?);
+    let job = job_again(job, core.jobs, mark, headers.duplicate(alloc)?);
     let effects = start_of(alloc, job)?;
-    let snapshot = headers.duplicate(alloc)?;
+    let length = core.journal.len();
     core.journal.push(Entry::Load(core.loads))?;
-    core.pending.begin_again(message, core.jobs, mark, snapshot);
+    if core.pending.begin_again(alloc, message, core.jobs, mark, &headers).is_err() {
+        core.journal.truncate(length);
+        return Err(Memory);
+    }
     core.headers = headers;
     core.awaited = None;
     core.jobs = jobs;
     core.loads = loads;
     Ok(effects)
-}
-
-/// The job with another number, mark and snapshot.
-fn begun_again(job: Job, number: u64, mark: u64, headers: HeaderMap) -> Job
-    ensures { result ≡ again number mark headers job }
-{
-    let Job {
-        number: _,
-        message,
-        mark: _,
-        path,
-        version,
-        text,
-        config,
-        headers: _,
-        kind,
-    } = job;
-    Job {
-        number,
-        message,
-        mark,
-        path,
-        version,
-        text,
-        config,
-        headers,
-        kind,
-    }
 }
 
 /// The start of a job alone.

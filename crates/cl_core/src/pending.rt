@@ -7,11 +7,11 @@ ghost use Rattle.std.specs.Option.{option_copied};
 ghost use Rattle.cl_core.specs.declared.waiting.Waiting.{Waiting};
 ghost use Rattle.cl_core.specs.Waiting.{has_id, is_meant, number_of};
 ghost use Rattle.cl_core.specs.Indexes.{found_in};
-ghost use Rattle.cl_core.specs.Steps.{begun_again, is_nil};
+ghost use Rattle.cl_core.specs.Steps.{again, begun_again, is_nil};
 
 use crate::index::{Documents, Ids};
 use crate::waiting::{Waiting, Which};
-use cl_base::{Mem, Memory};
+use cl_base::{Duplicate, Mem, Memory};
 use cl_headers::HeaderMap;
 use cl_query::Job;
 use cl_rpc::Id;
@@ -188,15 +188,18 @@ impl Pending {
         }
     }
 
-    /// Begins the job of the request that this message made again, with this number and mark and over these headers.
-    pub fn begin_again(&mut self, message: u64, number: u64, mark: u64, headers: HeaderMap)
-        ensures { self.new ≡ begun_again message number mark headers self.old }
+    /// Begins the job of the request that this message made again, with this number and mark and over these headers, or
+    /// changes nothing.
+    pub fn begin_again(&mut self, alloc: Global, message: u64, number: u64, mark: u64, headers: &HeaderMap) -> Mem<()>
+        ensures ok { OnOk result (self.new ≡ begun_again message number mark headers.now self.old) }
+        ensures err { OnErr result (self.new ≡ self.old) }
     {
-        if let Some(waiting) = self.waiting.get_mut(&message) {
-            waiting.job.number = number;
-            waiting.job.mark = mark;
-            waiting.job.headers = headers;
-        }
+        let Some(waiting) = self.waiting.get(&message) else {
+            return Ok(());
+        };
+        let again = begun(alloc, waiting, number, mark, headers)?;
+        self.waiting.insert(message, again)?;
+        Ok(())
     }
 
     /// Lets those go that are meant.
@@ -206,6 +209,45 @@ impl Pending {
         while let Some(message) = self.first(which) {
             self.remove(message);
         }
+    }
+}
+
+/// The request with its job begun again.
+fn begun(alloc: Global, waiting: &Waiting, number: u64, mark: u64, headers: &HeaderMap) -> Mem<Waiting>
+    ensures { IfOk result (λ after. after ≡ record waiting.now { job = again number mark headers.now waiting.now.job }) }
+{
+    let id = waiting.id.duplicate(alloc)?;
+    let job = waiting.job.duplicate(alloc)?;
+    let headers = headers.duplicate(alloc)?;
+    let job = job_again(job, number, mark, headers);
+    Ok(Waiting { id, job })
+}
+
+/// The job with another number, mark and snapshot.
+pub fn job_again(job: Job, number: u64, mark: u64, headers: HeaderMap) -> Job
+    ensures { result ≡ again number mark headers job }
+{
+    let Job {
+        number: _,
+        message,
+        mark: _,
+        path,
+        version,
+        text,
+        config,
+        headers: _,
+        kind,
+    } = job;
+    Job {
+        number,
+        message,
+        mark,
+        path,
+        version,
+        text,
+        config,
+        headers,
+        kind,
     }
 }
 

@@ -22,8 +22,8 @@ pub fn replies_of(
     refusal: Option<i32>,
     ends: Option<Which<'_>>,
 ) -> Mem<List<Effect>>
-    requires refused { refusal ≡ core_refusal core.now (class_behind class.entry) }
-    requires ended { end_behind ends.entry ≡ ends_by core.now (class_behind class.entry) }
+    requires refused { refusal ≡ core_refusal core.now (class_behind class) }
+    requires ended { end_behind ends ≡ ends_by core.now (class_behind class) }
     ensures { IfOk result (λ effects. effects ≡ map Effect.Reply (replies_of core.now (class_behind class.entry))) }
 {
     let mark = core.journal.len() as u64 + 1;
@@ -57,7 +57,7 @@ fn accepted(
     ends: Option<Which<'_>>,
 ) -> Mem<List<Effect>>
     requires mark { mark < 2 ^ 33 }
-    requires ended { end_behind ends.entry ≡ ends_by core.now (class_behind class.entry) }
+    requires ended { end_behind ends ≡ ends_by core.now (class_behind class) }
     ensures { IfOk result (λ effects. effects ≡ map Effect.Reply (replies_if_accepted core.now mark (class_behind class.entry))) }
 {
     match class {

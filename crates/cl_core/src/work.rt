@@ -17,7 +17,7 @@ use std::alloc::Global;
 
 /// What a message of this refusal does to the documents, and the request that starts to wait by it.
 pub fn work_of<'a>(alloc: Global, core: &State, class: Class<'a>, refusal: Option<i32>) -> Mem<Work<'a>>
-    requires { refusal ≡ core_refusal core.now (class_behind class.entry) }
+    requires { refusal ≡ core_refusal core.now (class_behind class) }
     ensures { IfOk result (λ work. IsWorkOf core.now (class_behind class.entry) work) }
 {
     if let Class::Queries(id, query, path) = class {
