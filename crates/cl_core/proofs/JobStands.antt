@@ -213,7 +213,7 @@ awaits_stands given old new job path effects w s waits same needs_it is_unknown 
       none_due = s.none_due;
     })
 
-by_known : (b : Bool) (A B C : Type 0) → MatchBool b A B → (A → C) → (b ≡ false → B → C) → C
+pub by_known : (b : Bool) (A B C : Type 0) → MatchBool b A B → (A → C) → (b ≡ false → B → C) → C
 by_known true A B C m f g = f m
 by_known false A B C m f g = g refl m
 

@@ -39,16 +39,16 @@ NoRead (event.Loaded path read) = ⊥
 NoRead _ = Unit {0}
 
 none_by : (o : Option Awaited) (e : Event) → NoRead e → is_awaited o e ≡ true → o ≡ None
-none_by None e no heard = refl
-none_by (Some a) (event.Message p) no heard = absurd (false≢true heard)
-none_by (Some a) (event.Loaded path read) no heard = absurd no
-none_by (Some a) (event.Done done) no heard = absurd (false≢true heard)
-none_by (Some a) (event.Need need) no heard = absurd (false≢true heard)
-none_by (Some a) (event.NoMemory job) no heard = absurd (false≢true heard)
-none_by (Some a) (event.End e) no heard = absurd (false≢true heard)
+none_by None e calm heard = refl
+none_by (Some a) (event.Message p) calm heard = absurd (false≢true heard)
+none_by (Some a) (event.Loaded path read) calm heard = absurd calm
+none_by (Some a) (event.Done done) calm heard = absurd (false≢true heard)
+none_by (Some a) (event.Need need) calm heard = absurd (false≢true heard)
+none_by (Some a) (event.NoMemory job) calm heard = absurd (false≢true heard)
+none_by (Some a) (event.End e) calm heard = absurd (false≢true heard)
 
 pub none_awaited : (old : Core) (e : Event) → NoRead e → hears old e ≡ true → old.awaited ≡ None
-none_awaited old e no heard = none_by old.awaited e no (second (not old.finished) (is_awaited old.awaited e) heard)
+none_awaited old e calm heard = none_by old.awaited e no (second (not old.finished) (is_awaited old.awaited e) heard)
 
 some_by : (o : Option Awaited) (path : List ℕ) (read : Read) → is_awaited o (event.Loaded path read) ≡ true → (a : Awaited) × (o ≡ Some a) × (bytes_eq a.path path ≡ true)
 some_by None path read heard = absurd (false≢true heard)

@@ -16,3 +16,7 @@ pub mod Settling
 pub mod Running
 pub mod Numbering
 pub mod Turning
+pub mod Started
+pub mod Finishing
+pub mod Decided
+pub mod Forgotten

@@ -1,5 +1,5 @@
 -- A session that does each job before it takes the next message.
-use Rattle.std.proofs.Common.{◌≡◌, ◌⊎◌, inl, inr, ⊎_elim, ℕ, ℤ, ◌+◌, List, [], ◌∷◌, ◌++◌, length, map, Bool, true, false, refl, sym, ap, ◌∙◌, subst, arith, append-nil, nat_eq, eq-eqb, suc}
+use Rattle.std.proofs.Common.{◌≡◌, ◌⊎◌, inl, inr, ⊎_elim, ℕ, ℤ, ◌+◌, List, [], ◌∷◌, ◌++◌, length, map, Bool, true, false, refl, sym, ap, ◌∙◌, subst, arith, append-nil, nat_eq, eq-eqb, zero, suc}
 use Rattle.std.specs.Prelude.{Contains, Option, Some, None, is_some, if◌then◌else◌, ◌&&◌, ◌||◌, not, option_map, unwrap_or}
 use Rattle.std.specs.Bool.{MatchBool}
 use Rattle.std.specs.Str.{bytes_eq}
@@ -14,6 +14,9 @@ use Rattle.cl_query.specs.declared.job.Job.{Job}
 use Rattle.cl_rpc.specs.declared.id.Id.{Id}
 use Rattle.cl_rpc.specs.declared.out.How.{How}
 use Rattle.cl_rpc.specs.declared.out.Out.{Out}
+use Rattle.cl_rpc.specs.declared.out.How.TheVariants as how
+use Rattle.cl_rpc.specs.declared.out.Out.TheVariants as out
+use Rattle.cl_history.specs.Refusals.{out_of_memory}
 use Rattle.cl_rpc.specs.declared.out.Reply.{Reply}
 use Rattle.cl_rpc.specs.Classes.{Class, queries, exits, class_of}
 use Rattle.cl_history.specs.History.{End}
@@ -254,7 +257,7 @@ one_found : (ws : List Waiting) (w v : Waiting) → ws ≡ w ∷ [] → Contains
 one_found ws w v one among = found (subst (λ (us : List Waiting). Contains us v) one among)
   where
     found : Contains (w ∷ []) v → v ≡ w
-    found (0, lt, e) = sym e
+    found (zero, lt, e) = sym e
     found (suc n, lt, e) = absurd (omega arith)
 
 load_turn : (old new : Core) (message : ℕ) (path : List ℕ) (read : Read) (effects : List Effect) → Loads old message path read new effects ⊎ IsLost old message new effects → AwaitsRead old path → message ≡ awaited_message old
@@ -299,19 +302,22 @@ heard_on : (b : Bool) (P Q : Type 0) → b ≡ true → MatchBool b P Q → P
 heard_on true P Q e m = m
 heard_on false P Q e m = absurd (false≢true e)
 
+same_path : (path : List ℕ) → bytes_eq path path ≡ true
+same_path path = (bytes_eq-Decides path path).1 refl
+
+on : (old new : Core) (e : Event) (effects : List Effect) → hears old e ≡ true → Steps old e new effects → StepsOn old e new effects
+on old new e effects heard steps = heard_on (hears old e) (StepsOn old e new effects) ((new ≡ old) × (effects ≡ [])) heard steps
+
 pub step_turns : (old new : Core) (e : Event) (effects : List Effect) → Steps old e new effects → Turns old e new effects
 step_turns old new (event.Message p) effects steps = λ idle.
-    let takes : Takes old (class_of p) new effects = heard_on _ _ _ (rw (idle.not_over, idle.none_awaited) refl) steps in
+    let takes : Takes old (class_of p) new effects = on old new (event.Message p) effects (rw (idle.not_over, idle.none_awaited) refl) steps in
     (takes.messages, takes.loads, take_by (is_exit (class_of p)) old new (class_of p) effects refl takes idle)
 step_turns old new (event.Loaded path read) effects steps = λ awaits.
-    load_turn old new (awaited_message old) path read effects (heard_on _ _ _ (rw (awaits.not_over, awaits.awaited) (same_path path)) steps) awaits refl
-  where
-    same_path : (path : List ℕ) → bytes_eq path path ≡ true
-    same_path path = (bytes_eq-Decides path path).1 refl
+    load_turn old new (awaited_message old) path read effects (on old new (event.Loaded path read) effects (rw (awaits.not_over, awaits.awaited) (same_path path)) steps) awaits refl
 step_turns old new (event.Done done) effects steps = λ works.
-    ends_turn old new done.job _ _ _ effects (heard_on _ _ _ (rw (works.not_over, works.none_awaited) refl) steps) works
+    ends_turn old new done.job done.job.mark how.Answered (out.Answer done.answer) effects (on old new (event.Done done) effects (rw (works.not_over, works.none_awaited) refl) steps) works
 step_turns old new (event.Need need) effects steps = λ works.
-    need_turn old new need.job need.path effects (heard_on _ _ _ (rw (works.not_over, works.none_awaited) refl) steps) works
+    need_turn old new need.job need.path effects (on old new (event.Need need) effects (rw (works.not_over, works.none_awaited) refl) steps) works
 step_turns old new (event.NoMemory job) effects steps = λ works.
-    ends_turn old new job _ _ _ effects (heard_on _ _ _ (rw (works.not_over, works.none_awaited) refl) steps) works
-step_turns old new (event.End e) effects steps = λ idle. stops_idle old new e effects (heard_on _ _ _ (rw (idle.not_over, idle.none_awaited) refl) steps) idle
+    ends_turn old new job (length old.journal) how.Memory (out.Error out_of_memory) effects (on old new (event.NoMemory job) effects (rw (works.not_over, works.none_awaited) refl) steps) works
+step_turns old new (event.End e) effects steps = λ idle. stops_idle old new e effects (on old new (event.End e) effects (rw (idle.not_over, idle.none_awaited) refl) steps) idle

@@ -43,6 +43,10 @@ messages_taken core = core.messages
 abbrev pub reads_taken : Core → ℕ
 reads_taken core = core.loads
 
+-- how many jobs it started
+abbrev pub jobs_started : Core → ℕ
+jobs_started core = core.jobs
+
 -- the path whose read it awaits
 abbrev pub awaited_path : Core → Option (List ℕ)
 awaited_path core = option_map (λ (a : Awaited). a.path) core.awaited

@@ -57,13 +57,14 @@ impl Core {
     ghost use Rattle.std.specs.Prelude.{◌≡◌, ℕ, [], List, None, IfOk};
     ghost use Rattle.cl_history.specs.Given.{Given};
     ghost use Rattle.cl_history.specs.Headers.{AreHeadersAt};
-    ghost use Rattle.cl_core.specs.Standing.{IsIdle, StandsFor, journal_of, past_of};
+    ghost use Rattle.cl_core.specs.Standing.{IsIdle, StandsFor, jobs_started, journal_of, past_of};
 
     /// A session in which nothing has happened.
     pub fn new(alloc: Global, config: &Config) -> Mem<Core>
         ensures stands { IfOk result (λ core. (given : Given) → given.config ≡ config.now → StandsFor given core) }
         ensures journal { IfOk result (λ core. journal_of core ≡ []) }
         ensures idle { IfOk result (λ core. IsIdle core) }
+        ensures jobs { IfOk result (λ core. jobs_started core ≡ 0) }
     {
         let config = config.duplicate(alloc)?;
         let headers = HeaderMap::new(alloc)?;

@@ -10,8 +10,8 @@ ghost use Rattle.cl_history.specs.Accepted.{IsInStandardWords};
 ghost use Rattle.cl_core.specs.declared.core_state.Core.{Core};
 ghost use Rattle.cl_core.specs.Runs.{HasRun, Put, Runs, effects_of};
 ghost use Rattle.cl_core.specs.Ends.{EndsOnce};
-ghost use Rattle.cl_core.specs.Jobs.{AllStarted, EachHasOneOut};
-ghost use Rattle.cl_core.specs.Standing.{IsIdle, StandsFor, journal_of};
+ghost use Rattle.cl_core.specs.Jobs.{AllStarted, AreNumberedFrom, EachHasOneOut, jobs_so_far};
+ghost use Rattle.cl_core.specs.Standing.{IsIdle, StandsFor, jobs_started, journal_of};
 
 /// In a legal journal no message gets two replies, and once no query is pending each request has one.
 pub fn one_reply()
@@ -35,6 +35,8 @@ pub fn any_run()
         → StandsFor given fresh → journal_of fresh ≡ [] → Runs given fresh puts core → HasRun given core (effects_of puts) }
     ensures started { (given : Given) (puts : List Put) (fresh core : Core)
         → StandsFor given fresh → journal_of fresh ≡ [] → Runs given fresh puts core → AllStarted given puts }
+    ensures numbers { (given : Given) (puts : List Put) (fresh core : Core)
+        → jobs_started fresh ≡ 0 → Runs given fresh puts core → AreNumberedFrom 0 (jobs_so_far puts) }
     ensures ends { (given : Given) (puts : List Put) (fresh core : Core)
         → StandsFor given fresh → journal_of fresh ≡ [] → IsIdle fresh → Runs given fresh puts core → EndsOnce given puts }
     ensures out { (given : Given) (puts : List Put) (fresh core : Core)

@@ -5,7 +5,7 @@ ghost use Rattle.cl_rpc.specs.Classes.{class_behind};
 ghost use Rattle.cl_history.specs.Refusals.{id_of};
 ghost use Rattle.cl_history.specs.Legal.{how_ended};
 ghost use Rattle.cl_core.specs.Deciding.{code_of, core_refusal, reply_by, ended, ends_by, meant_by, replies_of, replies_if_accepted};
-ghost use Rattle.cl_core.specs.Decisions.{end_behind};
+ghost use Rattle.cl_core.specs.Decisions.{IsEnding, end_behind};
 
 use crate::core_state::State;
 use crate::event::Effect;
@@ -24,6 +24,7 @@ pub fn replies_of(
 ) -> Mem<List<Effect>>
     requires refused { refusal ≡ core_refusal core.now (class_behind class) }
     requires ended { end_behind ends ≡ ends_by core.now (class_behind class) }
+    requires told { IsEnding ends }
     ensures { IfOk result (λ effects. effects ≡ map Effect.Reply (replies_of core.now (class_behind class.entry))) }
 {
     let mark = core.journal.len() as u64 + 1;
@@ -58,6 +59,7 @@ fn accepted(
 ) -> Mem<List<Effect>>
     requires mark { mark < 2 ^ 33 }
     requires ended { end_behind ends ≡ ends_by core.now (class_behind class) }
+    requires told { IsEnding ends }
     ensures { IfOk result (λ effects. effects ≡ map Effect.Reply (replies_if_accepted core.now mark (class_behind class.entry))) }
 {
     match class {
@@ -96,6 +98,7 @@ fn ended(
     ends: Option<Which<'_>>,
 ) -> Mem<List<Effect>>
     requires mark { mark < 2 ^ 33 }
+    requires told { IsEnding ends }
     ensures { IfOk result (λ effects. effects ≡ map Effect.Reply (ended mark how (meant_by (end_behind ends.entry) core.now.pending))) }
 {
     let Some(which) = ends else {
