@@ -20,3 +20,4 @@ pub mod Started
 pub mod Finishing
 pub mod Decided
 pub mod Forgotten
+pub mod JobsOut

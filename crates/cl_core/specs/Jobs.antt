@@ -46,10 +46,10 @@ IsEndOf (event.Need need) job = need.job ≡ job
 IsEndOf (event.NoMemory failed) job = failed ≡ job
 IsEndOf _ job = ⊥
 
--- a job is out from its start on, until the first end of it is taken
+-- a job is out from its start on, until the first end of it is taken and heard
 abbrev pub IsOut : List Put → Job → Type 0
 IsOut [] job = ⊥
-IsOut (put ∷ past) job = Contains (jobs_of put.effects) job ⊎ (IsOut past job × (put.taken ≡ true → IsEndOf put.event job → ⊥))
+IsOut (put ∷ past) job = Contains (jobs_of put.effects) job ⊎ (IsOut past job × (put.taken ≡ true → put.heard ≡ true → IsEndOf put.event job → ⊥))
 
 -- just one job is out for a message
 pub record HasOneOut (puts : List Put) (message : ℕ) : Type 0 where
@@ -58,10 +58,11 @@ pub record HasOneOut (puts : List Put) (message : ℕ) : Type 0 where
   pub is_out : IsOut puts job
   pub alone : (other : Job) → other.message ≡ message → IsOut puts other → other ≡ job
 
--- the message is that of the job whose need led to the read among the effects of the last put
+-- the message is that of the job whose need led to the read among the effects of the last put that had any
 abbrev pub LedToRead : List Put → ℕ → Type 0
 LedToRead [] message = ⊥
-LedToRead (put ∷ past) message = (loads_of put.effects ≢ []) × ((job : Job) × IsEndOf put.event job × (job.message ≡ message))
+LedToRead (put ∷ past) message =
+    ((loads_of put.effects ≢ []) × ((job : Job) × IsEndOf put.event job × (job.message ≡ message))) ⊎ ((put.effects ≡ []) × LedToRead past message)
 
 -- after each event of a run there is one for each query that is pending, but for the one whose job's need led to the
 -- read among the event's effects

@@ -184,6 +184,7 @@ pub record Loads (old : Core) (message : ℕ) (path : List ℕ) (read : Read) (n
   pub waiting : Waiting
   pub waits : Contains old.pending waiting
   pub works_for : waiting.job.message ≡ message
+  pub alone : waiting ∷ [] ≡ filter (λ w. nat_eq w.job.message message) old.pending
   pub known : (q : List ℕ) → known_at new.headers q ≡ (if bytes_eq path q then Some (told read) else known_at old.headers q)
   pub new_is : new ≡ record old {
     loads = old.loads + 1;

@@ -159,7 +159,7 @@ on_in : (b : Bool) (given : Given) (past : List Entry) (n : ℕ) → (is_query (
     → (accepted_without_reply given (In n ∷ past) ≡ []) ⊎ (is_initialised given (In n ∷ past) ≡ true)
 on_in true given past n is a = inr (or_right (is_initialising (said given n)) (is_initialised given past) (on_if_query given past (said given n) is))
 on_in false given past n is a = ⊎_elim
-    (λ nil. inl (rw (is, nil) refl))
+    (λ nil. inl (ap (λ (b : Bool). accepted_without_reply given past ++ (if b then n ∷ [] else [])) is ∙ append-nil (accepted_without_reply given past) ∙ nil))
     (λ on. inr (or_right (is_initialising (said given n)) (is_initialised given past) on)) a.on
 
 agrees_in : (given : Given) (past : List Entry) (n : ℕ) → n ≡ received past → owed given past ≡ [] → Agrees given past → Agrees given (In n ∷ past)

@@ -25,6 +25,7 @@ returns-clause-ok c =
       waiting = c.in-Some.waiting.now;
       waits = contains_one c.args.message c.in-Some.waiting.now c.args.core.now.pending one;
       works_for = number_one c.args.message c.in-Some.waiting.now c.args.core.now.pending one;
+      alone = one;
       known = λ q. c.in_ok-headers-2.ensures q ∙ ap (λ (h : Headers). if bytes_eq c.args.path.now q then Some (told c.args.read) else known_at h q) c.in_ok-headers.ensures;
       new_is = rw (p, j, n, l) refl;
       effects_are = search rules;
