@@ -6,19 +6,21 @@ use std::test::Fail;
 #[test]
 fn what_was_put_last_is_known(rt: HostRuntime) -> Result<(), Fail> {
     let alloc = rt.alloc();
-    let mut headers = HeaderMap::new(alloc);
+    let mut headers = HeaderMap::new(alloc)?;
     assert!(rt; found(alloc, &headers, "/a.h")?.is_empty());
     headers.put(
+        alloc,
         Path::new(alloc, "/a.h")?,
         Known::Found(Text::new(alloc, b"one")?),
     )?;
     headers.put(
+        alloc,
         Path::new(alloc, "/a.h")?,
         Known::Found(Text::new(alloc, b"two")?),
     )?;
-    headers.put(Path::new(alloc, "/b.h")?, Known::Absent)?;
+    headers.put(alloc, Path::new(alloc, "/b.h")?, Known::Absent)?;
     assert!(rt; found(alloc, &headers, "/a.h")?.as_slice() == b"two".as_slice());
-    headers.forget(&Path::new(alloc, "/a.h")?);
+    headers.forget(alloc, &Path::new(alloc, "/a.h")?)?;
     assert!(rt; headers.get(&Path::new(alloc, "/a.h")?).is_none());
     assert!(rt; matches!(headers.get(&Path::new(alloc, "/b.h")?), Some(Known::Absent)));
     Ok(())

@@ -7,12 +7,18 @@ mod bodies;
 #[cfg(test)]
 mod documents;
 #[cfg(test)]
+mod edges;
+#[cfg(test)]
 mod frames;
 #[cfg(test)]
 mod header_map;
+#[cfg(test)]
+mod large;
 #[cfg(test)]
 mod queries;
 #[cfg(test)]
 mod replies;
 #[cfg(test)]
 mod sessions;
+#[cfg(test)]
+mod snapshots;

@@ -1,7 +1,8 @@
 //! Worked examples.
 
-use cl_base::{Answer, Duplicate, Mem, Memory, Path, Symbol, Text};
-use cl_query::{Job, JobAnswer, Query, run_job};
+use cl_base::{Answer, Config, Duplicate, List, Mem, Memory, Path, Query, Symbol, Text};
+use cl_headers::HeaderMap;
+use cl_query::{Job, JobAnswer, run_job};
 use std::alloc::Global;
 
 #[test]
@@ -42,13 +43,15 @@ fn listed(alloc: Global, text: &str) -> Mem<String> {
         path: Path::new(alloc, "/a.c")?,
         version: 4,
         text: Text::new(alloc, text.as_bytes())?,
+        config: Config::new(alloc, List::new(alloc), List::new(alloc))?,
+        headers: HeaderMap::new(alloc)?,
         kind: Query::Symbols,
     };
     match run_job(alloc, job.duplicate(alloc)?) {
         JobAnswer::Done(done) => match &done.answer {
             Answer::Symbols(symbols) => lines(alloc, symbols.as_slice()),
         },
-        JobAnswer::Memory(_) => Err(Memory),
+        JobAnswer::Need(_) | JobAnswer::Memory(_) => Err(Memory),
     }
 }
 

@@ -1,0 +1,89 @@
+//! Snapshots of what is known of headers: a copy keeps what it had, and jobs over other snapshots are others.
+
+use cl_base::{Config, Duplicate, Known, List, Mem, Memory, Path, Query, Text};
+use cl_headers::HeaderMap;
+use cl_query::Job;
+use std::alloc::Global;
+
+/// The headers of a large session.
+const HEADERS: u32 = 100;
+
+#[test]
+fn a_copy_keeps_what_it_had(rt: HostRuntime) -> Result<(), Memory> {
+    let alloc = rt.alloc();
+    let mut headers = HeaderMap::new(alloc)?;
+    headers.put(alloc, Path::new(alloc, "/a.h")?, Known::Absent)?;
+    let before = headers.duplicate(alloc)?;
+    headers.put(alloc, Path::new(alloc, "/a.h")?, found(alloc, "int a;")?)?;
+    headers.put(alloc, Path::new(alloc, "/b.h")?, Known::Failed)?;
+    assert!(rt; known(alloc, &before, "/a.h")? == Some(Known::Absent));
+    assert!(rt; known(alloc, &before, "/b.h")?.is_none());
+    assert!(rt; known(alloc, &headers, "/a.h")? == Some(found(alloc, "int a;")?));
+    let later = headers.duplicate(alloc)?;
+    headers.forget(alloc, &Path::new(alloc, "/b.h")?)?;
+    assert!(rt; known(alloc, &headers, "/b.h")?.is_none());
+    assert!(rt; known(alloc, &later, "/b.h")? == Some(Known::Failed));
+    assert!(rt; !later.same(&headers) && later.same(&later.duplicate(alloc)?));
+    Ok(())
+}
+
+#[test]
+fn jobs_over_other_snapshots_are_others(rt: HostRuntime) -> Result<(), Memory> {
+    let alloc = rt.alloc();
+    let mut headers = HeaderMap::new(alloc)?;
+    let first = job(alloc, &headers)?;
+    headers.put(alloc, Path::new(alloc, "/a.h")?, Known::Absent)?;
+    let second = job(alloc, &headers)?;
+    assert!(rt; first.same(&first.duplicate(alloc)?) && !first.same(&second));
+    Ok(())
+}
+
+#[test]
+fn many_headers(rt: HostRuntime) -> Result<(), Memory> {
+    let alloc = rt.alloc();
+    let mut headers = HeaderMap::new(alloc)?;
+    let mut snapshots = Vec::new(alloc);
+    for number in 0..HEADERS {
+        let path = format!(in alloc; "/{number}.h")?;
+        snapshots.push(headers.duplicate(alloc)?)?;
+        headers.put(alloc, Path::new(alloc, path.as_str())?, Known::Absent)?;
+    }
+    assert!(rt; known(alloc, &headers, "/99.h")? == Some(Known::Absent));
+    let Some(last) = snapshots.pop() else {
+        return Err(Memory);
+    };
+    assert!(rt; known(alloc, &last, "/99.h")?.is_none());
+    assert!(rt; known(alloc, &last, "/98.h")? == Some(Known::Absent));
+    Ok(())
+}
+
+fn found(alloc: Global, text: &str) -> Mem<Known> {
+    let text = Text::new(alloc, text.as_bytes())?;
+    Ok(Known::Found(text))
+}
+
+/// What is known of a path.
+fn known(alloc: Global, headers: &HeaderMap, path: &str) -> Mem<Option<Known>> {
+    let path = Path::new(alloc, path)?;
+    match headers.get(&path) {
+        Some(known) => {
+            let known = known.duplicate(alloc)?;
+            Ok(Some(known))
+        }
+        None => Ok(None),
+    }
+}
+
+fn job(alloc: Global, headers: &HeaderMap) -> Mem<Job> {
+    Ok(Job {
+        number: 0,
+        message: 0,
+        mark: 0,
+        path: Path::new(alloc, "/a.c")?,
+        version: 1,
+        text: Text::new(alloc, b"int a;")?,
+        config: Config::new(alloc, List::new(alloc), List::new(alloc))?,
+        headers: headers.duplicate(alloc)?,
+        kind: Query::Symbols,
+    })
+}
