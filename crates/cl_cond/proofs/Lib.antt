@@ -8,3 +8,4 @@ pub mod Holding
 pub mod Valuing
 pub mod Deciding
 pub mod Total
+pub mod Existing

@@ -12,7 +12,8 @@ use Rattle.cl_cond.specs.declared.mark.Part.{Part}
 use Rattle.cl_cond.specs.declared.mark.Part.TheVariants.{Line, Branch, End}
 use Rattle.cl_cond.specs.declared.mark.Mark.{Mark}
 use Rattle.cl_cond.specs.declared.trouble.Trouble.{Trouble}
-use Rattle.cl_cond.specs.Lines.{Lines, IsLine, is_hash, named, token_at}
+use Rattle.cl_base.specs.Tokens.{is_hash}
+use Rattle.cl_cond.specs.Lines.{Lines, IsLine, named, token_at}
 use Rattle.cl_cond.specs.Sections.{trouble_of, parts, kept, kept_line, faults_of, fault_list}
 use Rattle.cl_cond.specs.code.Nesting.{sections, after_line, ends_of, ends_after, trouble_by, HasName}
 use Rattle.cl_cond.proofs.Following.{past, trouble_known}

@@ -1,9 +1,8 @@
 -- The lines of a file of these tokens, and what each is to conditional inclusion (N1570 6.10).
-use Rattle.std.specs.Prelude.{◌≡◌, ℕ, ◌+◌, ◌<◌, ◌≤◌, Bool, true, false, ◌&&◌, ◌||◌, if◌then◌else◌, nat_eq, nat_lt, List, [], ◌∷◌, length, slice_index_or, codes}
-use Rattle.std.specs.Cmp.Lexicographic.{pointwise}
+use Rattle.std.specs.Prelude.{◌≡◌, ℕ, ◌+◌, ◌<◌, ◌≤◌, true, false, ◌&&◌, if◌then◌else◌, nat_lt, List, [], ◌∷◌, length, slice_index_or, codes}
 use Rattle.cl_base.specs.declared.token.Token.{Token}
-use Rattle.cl_base.specs.declared.token.Kind.{Kind}
-use Rattle.cl_base.specs.declared.token.Kind.TheVariants.{Ident, Punct, Other}
+use Rattle.cl_base.specs.declared.token.Kind.TheVariants.{Other}
+use Rattle.cl_base.specs.Tokens.{is_hash, is_ident, spells}
 use Rattle.cl_cond.specs.declared.mark.Condition.TheVariants as condition
 use Rattle.cl_cond.specs.declared.mark.Part.{Part}
 use Rattle.cl_cond.specs.declared.mark.Part.TheVariants as part
@@ -15,21 +14,6 @@ no_token = record { kind = Other; text = []; from = 0; to = 0; space = false; fi
 -- the token at an index
 abbrev pub token_at : List Token → ℕ → Token
 token_at tokens i = slice_index_or tokens i no_token
-
-abbrev pub is_ident : Kind → Bool
-is_ident Ident = true
-is_ident _ = false
-
-abbrev pub is_punct : Kind → Bool
-is_punct Punct = true
-is_punct _ = false
-
-abbrev pub spells : List ℕ → List ℕ → Bool
-spells text word = pointwise nat_eq text word
-
--- `#`, or `%:`, which is the same (6.4.6)
-abbrev pub is_hash : Token → Bool
-is_hash token = is_punct token.kind && (spells token.text (codes "#") || spells token.text (codes "%:"))
 
 -- what a directive of this name is
 abbrev pub word_part : List ℕ → Part

@@ -15,6 +15,11 @@ pub fn one_grouping()
     ensures { (tokens : List Token) (x y : Groups) → GroupsOf tokens x → GroupsOf tokens y → x ≡ y }
 {}
 
+/// The tokens of every file have a structure.
+pub fn some_grouping()
+    ensures { (tokens : List Token) → (groups : Groups) × GroupsOf tokens groups }
+{}
+
 /// The marks are a group of the grammar (N1570 6.10), once the ends are added that are missing: one for each fault 14.
 pub fn marks_are_a_group()
     ensures { (tokens : List Token) (groups : Groups) → GroupsOf tokens groups → IsGroup groups }

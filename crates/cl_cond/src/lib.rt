@@ -14,5 +14,5 @@ mod word;
 
 pub use eval::{IfValue, eval_if};
 pub use group::groups;
-pub use laws::{marks_are_a_group, one_grouping, one_value, some_value};
+pub use laws::{marks_are_a_group, one_grouping, one_value, some_grouping, some_value};
 pub use mark::{Condition, Groups, Mark, Part};

@@ -2,10 +2,10 @@
 
 ghost use Rattle.std.specs.Prelude.{◌≡◌, ◌<◌, ◌≤◌, ◌+◌, ◌^◌, length, IfOk, nat_eq, codes};
 ghost use Rattle.std.specs.Cmp.Lexicographic.{pointwise};
-ghost use Rattle.cl_cond.specs.Lines.{EndsLine, Lines, is_hash, is_ident, is_punct, named, part_at, token_at, word_part};
+ghost use Rattle.cl_cond.specs.Lines.{EndsLine, Lines, named, part_at, token_at, word_part};
 
 use crate::mark::{Condition, Mark, Part};
-use cl_base::{Kind, List, Mem, Memory, Token};
+use cl_base::{List, Mem, Memory, Token};
 use std::alloc::Global;
 
 /// The most tokens that have their numbers: 2^32 - 1.
@@ -50,23 +50,10 @@ fn part_at(tokens: &[Token], from: usize, to: usize) -> Part
     requires within { to ≤ length tokens.now }
     ensures { result ≡ part_at tokens.now from to }
 {
-    if is_hash(&tokens[from]) && from + 1 < to {
+    if tokens[from].is_hash() && from + 1 < to {
         named(&tokens[from + 1])
     } else {
         Part::Line
-    }
-}
-
-/// Whether a directive begins with this token.
-fn is_hash(token: &Token) -> bool
-    ensures { result ≡ is_hash token.now }
-{
-    match token.kind {
-        Kind::Punct => {
-            let text = token.text.bytes();
-            text == b"#".as_slice() || text == b"%:".as_slice()
-        }
-        _ => false,
     }
 }
 
@@ -74,9 +61,10 @@ fn is_hash(token: &Token) -> bool
 fn named(name: &Token) -> Part
     ensures { result ≡ named name.now }
 {
-    match name.kind {
-        Kind::Ident => word_part(name.text.bytes()),
-        _ => Part::Line,
+    if name.kind.is_ident() {
+        word_part(name.text.bytes())
+    } else {
+        Part::Line
     }
 }
 

@@ -1,5 +1,7 @@
+pub mod Form
 pub mod FrameLemmas
 pub mod GoesOn
+pub mod Handed
 pub mod Known
 pub mod Local
 pub mod Made

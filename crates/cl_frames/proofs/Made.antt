@@ -7,11 +7,11 @@ use Rattle.std.proofs.lemmas.Bool.{eq-eqb}
 use Rattle.cl_frames.specs.Frames.{First, whole, after, length_from, body_from, first}
 use Rattle.cl_frames.proofs.FrameLemmas.{digit_more, digits_end, body_whole}
 
-abbrev AllDigits : List ℕ → Type 0
+abbrev pub AllDigits : List ℕ → Type 0
 AllDigits [] = Unit {0}
 AllDigits (c ∷ cs) = ((48 ≤ c) × (c ≤ 57)) × AllDigits cs
 
-abbrev value_after : ℕ → List ℕ → ℕ
+abbrev pub value_after : ℕ → List ℕ → ℕ
 value_after n [] = n
 value_after n (c ∷ cs) = value_after (n * 10 + (c - 48)) cs
 
@@ -22,7 +22,7 @@ value_grows : (cs : List ℕ) (n : ℕ) → n ≤ value_after n cs
 value_grows [] n = omega arith
 value_grows (c ∷ cs) n = omega (arith, value_grows cs (n * 10 + (c - 48)))
 
-digits_read : (ds tail : List ℕ) (digits value : ℕ) → AllDigits ds → digits + length ds ≤ 8 → value_after value ds ≤ 67108864
+pub digits_read : (ds tail : List ℕ) (digits value : ℕ) → AllDigits ds → digits + length ds ≤ 8 → value_after value ds ≤ 67108864
     → length_from digits value (ds ++ tail) ≡ length_from (digits + length ds) (value_after value ds) tail
 digits_read [] tail digits value p few h =
     let same : digits ≡ digits + 0 = omega arith in ap (λ (k : ℕ). length_from k value tail) same
@@ -35,12 +35,12 @@ digits_read (c ∷ ds) tail digits value p few h =
     digit_more digits value c (ds ++ tail) p.0.0 p.0.1 below fits ∙ digits_read ds tail (digits + 1) more p.1 left h
     ∙ ap (λ (k : ℕ). length_from k (value_after more ds) tail) same
 
-front_read : (front : List ℕ) (next : List ℕ → First) (xs : List ℕ) → after front next (front ++ xs) ≡ next xs
+pub front_read : (front : List ℕ) (next : List ℕ → First) (xs : List ℕ) → after front next (front ++ xs) ≡ next xs
 unfolding after
 front_read [] next xs = refl
 front_read (a ∷ front) next xs = rw (eq-eqb a a refl) (front_read front next xs)
 
-name_read : (xs : List ℕ) → first (codes "Content-Length: " ++ xs) ≡ length_from 0 0 xs
+pub name_read : (xs : List ℕ) → first (codes "Content-Length: " ++ xs) ≡ length_from 0 0 xs
 unfolding first
 name_read xs = front_read (codes "Content-Length: ") (length_from 0 0) xs
 

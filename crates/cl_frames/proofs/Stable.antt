@@ -74,10 +74,10 @@ either_counts : (t : Bool) (p q : First) (body bytes : List ℕ) (n k : ℕ) →
 either_counts true p q body bytes n k f g e = f e
 either_counts false p q body bytes n k f g e = g e
 
-not_cut : (P : Type 0) (body : List ℕ) (n : ℕ) → cut ≡ whole body n → P
+pub not_cut : (P : Type 0) (body : List ℕ) (n : ℕ) → cut ≡ whole body n → P
 not_cut P body n e = let bad : ⊥ = cc in absurd bad
 
-not_wrong : (P : Type 0) (body : List ℕ) (n : ℕ) → wrong ≡ whole body n → P
+pub not_wrong : (P : Type 0) (body : List ℕ) (n : ℕ) → wrong ≡ whole body n → P
 not_wrong P body n e = let bad : ⊥ = cc in absurd bad
 
 one_more : (k j b : ℕ) (xs body : List ℕ) (n : ℕ) → j ≡ k + 1 → Counts j xs body n → Counts k (b ∷ xs) body n

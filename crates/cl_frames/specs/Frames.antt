@@ -1,6 +1,6 @@
 -- The bytes of a session as frames. A frame is "Content-Length: ", one to eight decimal digits, two ends of lines, and
 -- a body of as many bytes as the digits say, at most 67,108,864.
-use Rattle.std.specs.Prelude.{◌≡◌, ◌≢◌, ℕ, ◌+◌, ◌-◌, ◌*◌, ◌^◌, ◌<◌, ◌≤◌, ◌&&◌, ◌==◌, ◌⊎◌, List, [], ◌∷◌, length, take, drop, Bool, nat_le, nat_lt, if◌then◌else◌, Option, Some, None, codes}
+use Rattle.std.specs.Prelude.{◌≡◌, ◌≢◌, ℕ, ◌+◌, ◌-◌, ◌*◌, ◌^◌, ◌<◌, ◌≤◌, ◌&&◌, ◌==◌, ◌⊎◌, List, [], ◌∷◌, ◌++◌, length, take, drop, true, Bool, nat_le, nat_lt, if◌then◌else◌, Option, Some, None, codes}
 use Rattle.cl_frames.specs.declared.frame.Frame.{Frame}
 use Rattle.cl_frames.specs.declared.frame.Frame.TheVariants.{Body, End, Bad, Failed, Long, Memory}
 use Rattle.cl_frames.specs.declared.frame.Stop.{Stop}
@@ -89,3 +89,26 @@ pub record ReadsFrame (at now : ℕ) (bytes : List ℕ) (left : Option (List ℕ
   pub left_is : left ≡ Some (drop count bytes)
   pub now_is : now ≡ at + count
   pub tells : Tells at bytes count frame
+
+-- ---- the form of a frame, read back
+
+abbrev pub are_digits : List ℕ → Bool
+are_digits [] = true
+are_digits (digit ∷ digits) = is_digit digit && are_digits digits
+
+-- the number that decimal digits spell, after those that spelled `value`
+abbrev pub spelled : ℕ → List ℕ → ℕ
+spelled value [] = value
+spelled value (digit ∷ digits) = spelled (value * 10 + (digit - 48)) digits
+
+-- the bytes are the name, one to eight digits that spell the body's length, two ends of lines, the body, and some rest
+pub record HasForm (bytes body : List ℕ) (n : ℕ) : Type 0 where
+  pub digits : List ℕ
+  pub rest : List ℕ
+  pub are : are_digits digits ≡ true
+  pub some : 0 < length digits
+  pub few : length digits ≤ 8
+  pub spell : spelled 0 digits ≡ length body
+  pub small : length body ≤ 67108864
+  pub form : bytes ≡ codes "Content-Length: " ++ (digits ++ (codes "\r\n\r\n" ++ (body ++ rest)))
+  pub count : n ≡ 20 + length digits + length body

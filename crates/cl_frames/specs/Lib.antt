@@ -1,3 +1,5 @@
+pub mod Adapters
+pub mod Edges
 pub mod Frames
 pub mod Outside
 pub mod Reading

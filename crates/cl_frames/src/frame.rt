@@ -2,7 +2,7 @@ ghost use Rattle.std.specs.Prelude.{◌≡◌, ℕ, ◌+◌, ◌≤◌, ◌<◌,
 ghost use Rattle.std.specs.Fmt.{decimal};
 ghost use Rattle.std.specs.Io.KnownBytes.{IsAtEnd, prepend_known};
 ghost use Rattle.cl_base.specs.Faults.{HasCause};
-ghost use Rattle.cl_frames.specs.Frames.{ReadsFrame, cut, first, last_of, stopped, whole, wrong};
+ghost use Rattle.cl_frames.specs.Frames.{HasForm, ReadsFrame, cut, first, last_of, stopped, whole, wrong};
 ghost use Rattle.cl_frames.specs.Reading.{TakesBody};
 
 use crate::header::{Header, LAST_BYTE, read_header};
@@ -249,4 +249,11 @@ pub fn first_of_frame()
     ensures { (body : List ℕ) → length body ≤ 67108864
         → first (codes "Content-Length: " ++ decimal (length body) ++ codes "\r\n\r\n" ++ body)
         ≡ whole body (20 + length (decimal (length body)) + length body) }
+{}
+
+/// Bytes begin with a whole frame exactly where they are the name, one to eight digits that spell the length of its
+/// body, two ends of lines, and the body, in so many bytes.
+pub fn first_has_form()
+    ensures told { (bytes body : List ℕ) (n : ℕ) → first bytes ≡ whole body n → HasForm bytes body n }
+    ensures taken { (bytes body : List ℕ) (n : ℕ) → HasForm bytes body n → first bytes ≡ whole body n }
 {}

@@ -12,7 +12,9 @@ mod std_sink;
 mod std_source;
 mod write;
 
-pub use frame::{Frame, Frames, first_can_go_on, first_has_room, first_is_stable, first_of_frame};
+pub use frame::{
+    Frame, Frames, first_can_go_on, first_has_form, first_has_room, first_is_stable, first_of_frame,
+};
 pub use header::LONGEST_BODY;
 pub use memory_sink::MemorySink;
 pub use memory_source::MemorySource;

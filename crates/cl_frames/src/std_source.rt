@@ -1,5 +1,5 @@
-ghost use Rattle.std.specs.Prelude.{◌≡◌, ◌≤◌, length, vec_len, IfOk, IfSome};
-ghost use Rattle.cl_base.specs.Faults.{Rose};
+ghost use Rattle.std.specs.Prelude.{◌≡◌, ◌≤◌, ◌<◌, ℕ, take, length, vec_len, IfOk};
+ghost use Rattle.cl_frames.specs.Edges.{HandsOn};
 
 use crate::memory_source::copy_front;
 use crate::outside::{Got, Source};
@@ -21,12 +21,16 @@ pub struct StdSource<R> {
     faults: u64,
     ghost ordered: { at ≤ end },
     ghost within: { end ≤ vec_len buffer },
+    ghost some: { 0 < vec_len buffer },
 }
 
 impl<R: Read + Drop> StdSource<R> {
+    ghost use Rattle.cl_frames.specs.Adapters.{source_left};
+
     /// A source of what the reader gives from here on, with a buffer of 65,536 bytes and no fault so far.
     pub fn new(alloc: Global, inner: R) -> Mem<StdSource<R>>
-        ensures { IfOk result (λ source. ⟦<StdSource<R> as Source>⟧.faults source ≡ 0) }
+        ensures faults { IfOk result (λ source. ⟦<StdSource<R> as Source>⟧.faults source ≡ 0) }
+        ensures left { IfOk result (λ source. source_left R.remaining source ≡ R.remaining inner) }
     {
         let buffer = vec![in alloc; 0u8; ROOM]?;
         Ok(StdSource {
@@ -41,57 +45,98 @@ impl<R: Read + Drop> StdSource<R> {
 
 impl<R: Read> Source for StdSource<R> {
     ghost use Rattle.std.specs.Prelude.{None};
+    ghost use Rattle.cl_frames.specs.Outside.{Gives, GotCause};
+    ghost use Rattle.cl_frames.specs.Adapters.{source_left};
 
     ghost left = { λ _. None };
 
     ghost faults = { λ s. s.faults };
 
-    fn read(&mut self, buf: &mut [u8]) -> Got {
-        if self.at == self.end {
-            if buf.len() >= self.buffer.len() {
-                return match read_some(&mut self.inner, buf) {
-                    Some(count) => Got::Bytes(count),
-                    None => fault(&mut self.faults),
-                };
-            }
-            match read_some(&mut self.inner, self.buffer.as_mut_slice()) {
-                Some(count) => {
-                    self.at = 0;
-                    self.end = count;
-                }
-                None => return fault(&mut self.faults),
-            }
+    /// Where the reader tells what it has left, the bytes that were read ahead and those are handed on exactly: in
+    /// order, none twice and none lost.
+    fn read(&mut self, buf: &mut [u8]) -> Got
+        ensures bytes { Gives None None buf.new result }
+        ensures cause { GotCause self.old.faults self.new.faults result }
+        ensures hands_on { HandsOn (source_left R.remaining self.old) (source_left R.remaining self.new) buf.new result }
+    {
+        let got = self.hand_on(buf);
+        if let Got::Failed = got {
+            self.faults = self.faults.saturating_add(1);
         }
+        got
+    }
+}
+
+impl<R: Read> StdSource<R> {
+    ghost use Rattle.std.specs.Prelude.{IsTrue};
+    ghost use Rattle.std.specs.Io.KnownBytes.{Consumes, Keeps, IsAtEnd};
+    ghost use Rattle.cl_frames.specs.Outside.{Gives};
+    ghost use Rattle.cl_frames.specs.Adapters.{source_left};
+
+    /// A read that counts no fault. With nothing read ahead, a large piece is filled by the reader itself.
+    fn hand_on(&mut self, buf: &mut [u8]) -> Got
+        ensures bytes { Gives None None buf.new result }
+        ensures hands_on { HandsOn (source_left R.remaining self.old) (source_left R.remaining self.new) buf.new result }
+        ensures faults { self.new.faults ≡ self.old.faults }
+    {
+        if self.at == self.end && buf.len() >= self.buffer.len() {
+            return read_some(&mut self.inner, buf);
+        }
+        if !self.fill() {
+            return Got::Failed;
+        }
+        let count = self.take_ahead(buf);
+        Got::Bytes(count)
+    }
+
+    /// Reads ahead, where nothing is left of what was. It tells whether the reader had no fault.
+    fn fill(&mut self) -> bool
+        ensures kept { Keeps (source_left R.remaining self.old) (source_left R.remaining self.new) }
+        ensures end { IsTrue result → self.new.at ≡ self.new.end → IsAtEnd (source_left R.remaining self.new) }
+        ensures faults { self.new.faults ≡ self.old.faults }
+    {
+        if self.at < self.end {
+            return true;
+        }
+        match read_some(&mut self.inner, self.buffer.as_mut_slice()) {
+            Got::Bytes(count) => {
+                self.at = 0;
+                self.end = count;
+                true
+            }
+            Got::Failed => false,
+        }
+    }
+
+    /// Hands on the front of what was read ahead.
+    fn take_ahead(&mut self, buf: &mut [u8]) -> usize
+        ensures within { result ≤ length buf.new }
+        ensures front { Consumes (source_left R.remaining self.old) (source_left R.remaining self.new) (take result buf.new) }
+        ensures none { result ≡ 0 → 0 < length buf.new → (self.old.at ≡ self.old.end) × (source_left R.remaining self.new ≡ source_left R.remaining self.old) }
+        ensures faults { self.new.faults ≡ self.old.faults }
+    {
         let ahead = &self.buffer.as_slice()[self.at..self.end];
         let count = ahead.len().min(buf.len());
         copy_front(buf, ahead, count);
         self.at += count;
-        Got::Bytes(count)
+        count
     }
 }
 
-/// One fault more.
-fn fault(faults: &mut u64) -> Got
-    ensures failed { result ≡ Got.Failed }
-    ensures rose { Rose faults.old faults.new }
-{
-    *faults = faults.saturating_add(1);
-    Got::Failed
-}
-
-/// One read, made again where a signal broke it off. It tells how many bytes came, or nothing at a fault.
-fn read_some<R: Read>(reader: &mut R, buf: &mut [u8]) -> Option<usize>
-    ensures { IfSome result (λ count. count ≤ length buf.new) }
+/// One read, made again where a signal broke it off.
+fn read_some<R: Read>(reader: &mut R, buf: &mut [u8]) -> Got
+    ensures hands_on { HandsOn (R.remaining reader.old) (R.remaining reader.new) buf.new result }
+    ensures within { (n : ℕ) → result ≡ Got.Bytes n → n ≤ length buf.new }
 {
     for _ in 0..u64::MAX {
         match reader.read(buf) {
-            Ok(count) => return Some(count),
+            Ok(count) => return Got::Bytes(count),
             Err(error) => {
                 if error.kind() != ErrorKind::Interrupted {
-                    return None;
+                    return Got::Failed;
                 }
             }
         }
     }
-    None
+    Got::Failed
 }

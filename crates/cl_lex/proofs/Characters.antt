@@ -11,7 +11,7 @@ pub both_true : (a b : Bool) → (a && b) ≡ true → (a ≡ true) × (b ≡ tr
 both_true true b e = (refl, e)
 both_true false b e = (e, cc)
 
-stands_within : (text : List ℕ) (at c : ℕ) → stands text at c ≡ true → at < length text
+pub stands_within : (text : List ℕ) (at c : ℕ) → stands text at c ≡ true → at < length text
 stands_within text at c e = let one : nat_lt at (length text) ≡ true = (both_true (nat_lt at (length text)) (get_or text at 0 == c) e).0 in grind (arith, nat_tests)
 
 some_width : (n : ℕ) (t b : Bool) → 0 < cond (not (n == 0)) n (cond t 3 (cond b 3 1))

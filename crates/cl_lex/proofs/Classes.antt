@@ -64,6 +64,12 @@ pub class_new_line : (c : ℕ) → c ≡ 10 → class c ≡ 9
 unfolding class
 class_new_line c e = rw e refl
 
+-- what begins none of these
+pub mark_class : (c : ℕ) → is_name_start c ≡ false → is_blank c ≡ false → is_digit c ≡ false → c ≢ 10 → c ≢ 46 → c ≢ 47 → c ≢ 60 → c ≢ 34 → c ≢ 39 → is_punctuator_1 c ≡ false
+    → class c ≡ 0
+unfolding class
+mark_class c a b d e f g h i j p = grind (arith, nat_tests)
+
 -- ---- which kinds of items may begin with a class
 
 abbrev pub may : ItemKind → ℕ → Bool
@@ -217,3 +223,9 @@ module _ (cs : List ℕ) (header : Bool) where
     pub only_mark : class (slice_index cs from) ≡ 10 → NoLonger (λ m. is_punctuator cs from (m - from) ≡ true) → NoneLonger
     only_mark e a (item.Token kind.Punct) m l w s = a m l w s
     only_mark e a other m l w s = wrong other from m 10 s e refl
+
+  pub only_none : (from : ℕ) → class (slice_index cs from) ≡ 0 → (k : ItemKind) (m : ℕ) → Spells cs header k from m → ⊥
+  only_none from e k m s = nothing k (subst (λ (x : ℕ). may k x ≡ true) e (fits k from m s))
+    where
+      nothing : (k : ItemKind) → may k 0 ≡ true → ⊥
+      nothing k p = grind (arith, nat_tests)

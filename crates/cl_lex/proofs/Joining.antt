@@ -1,9 +1,8 @@
 -- The characters of a text, as they are gathered one after the other.
-use Rattle.std.proofs.Common.{◌≡◌, ◌∙◌, ℕ, ◌<◌, ◌≤◌, ◌+◌, ◌^◌, List, [], ◌∷◌, ◌++◌, length, get_or, sym, ap, arith, append_assoc, append-nil, true, false}
-use Rattle.std.specs.Prelude.{Some}
+use Rattle.std.proofs.Common.{◌≡◌, ◌∙◌, ℕ, ◌<◌, ◌≤◌, ◌+◌, List, [], ◌∷◌, ◌++◌, length, get_or, sym, ap, arith, append_assoc, append-nil, true, false}
 use Rattle.cl_lex.specs.declared.source.Joined.{Joined}
 use Rattle.cl_lex.specs.Source.{Character, value_at, width_at, is_splice, splice_width, characters, values}
-use Rattle.cl_lex.specs.Held.{IsHeld, starts}
+use Rattle.cl_lex.specs.Held.{IsJoined, starts}
 use Rattle.cl_lex.specs.Plain.{is_plain_at}
 use Rattle.cl_lex.proofs.PlainText.{plain_byte}
 use Rattle.cl_lex.proofs.Characters.{rest, rest_all, rest_none, rest_spliced, rest_character, width_within, splice_within}
@@ -49,12 +48,11 @@ joining_plain text at vs ss vs' ss' h e v s j =
     let byte = plain_byte text at e in
     joining_more text at (at + 1) vs ss vs' ss' h byte.kept (ap (λ (n : ℕ). at + n) (sym byte.width)) (v ∙ ap (λ (c : ℕ). vs ++ c ∷ []) (sym byte.value)) s j
 
-pub joining_ends : (text : List ℕ) (at : ℕ) (joined : Joined) → length text ≤ 2 ^ 28 → length text ≤ at → IsJoining text at joined.values.items joined.starts.items
-    → IsHeld text (Some joined)
-joining_ends text at joined short h j =
+pub joining_ends : (text : List ℕ) (at : ℕ) (joined : Joined) → length text ≤ at → IsJoining text at joined.values.items joined.starts.items
+    → IsJoined text joined
+joining_ends text at joined h j =
     let none = rest_none text at h in
     record {
-      short = short;
       values = sym (append-nil joined.values.items) ∙ ap (λ (cs : List Character). joined.values.items ++ values cs) (sym none) ∙ j.values;
       starts = sym (append-nil joined.starts.items) ∙ ap (λ (cs : List Character). joined.starts.items ++ starts cs) (sym none) ∙ j.starts;
     }

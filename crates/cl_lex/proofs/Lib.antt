@@ -1,11 +1,16 @@
 mod Characters
 mod Classes
+mod Decided
+pub mod Exists
 mod HeldFacts
 mod Joining
 mod Lexed
-mod Longest
+pub mod Longest
+mod Machine
 mod Order
 mod Pass
 mod PlainText
 mod Quotes
+mod Singles
 pub mod Unique
+mod Words

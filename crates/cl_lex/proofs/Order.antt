@@ -3,13 +3,11 @@ use Rattle.std.proofs.Common.{◌≡◌, ℕ, ◌<◌, ◌≤◌, ◌+◌, ◌-�
 use Rattle.std.specs.Prelude.{slice_index_or, ◌++◌}
 use Rattle.std.proofs.lemmas.Bool.{cases_lt}
 use Rattle.cl_lex.specs.declared.item.Item.{Item}
-use Rattle.cl_lex.specs.declared.item.Line.{Line}
 use Rattle.cl_lex.specs.declared.item.ItemKind.{ItemKind}
 use Rattle.cl_lex.specs.declared.item.ItemKind.TheVariants as item
 use Rattle.cl_base.specs.declared.token.Lexed.{Lexed}
-use Rattle.cl_lex.specs.declared.item.Line.TheVariants.{Start}
 use Rattle.cl_lex.specs.Source.{Character, characters, values}
-use Rattle.cl_lex.specs.Items.{Tiles, line_after}
+use Rattle.cl_lex.specs.Items.{Tiles}
 use Rattle.cl_lex.specs.Lexing.{begins, ends, nothing, tokens_of, tokens_by, space_after, first_after, Lexes}
 use Rattle.cl_lex.specs.Order.{AreInOrder}
 use Rattle.cl_lex.proofs.Characters.{lies, in_order}
@@ -67,16 +65,16 @@ by_kind text item.OpenComment it p space first items l m h more = more p true fi
 by_kind text item.Space it p space first items l m h more = more p true first (fits_on text p it.from it.to l m h)
 by_kind text item.NewLine it p space first items l m h more = more p true true (fits_on text p it.from it.to l m h)
 
-order : (text : List ℕ) (line : Line) (at : ℕ) (items : List Item) → Tiles (values (characters text)) line at items → Rest text at items
-order text line at [] tiles p space first h = h.within
-order text line at (it ∷ items) tiles p space first h =
+order : (text : List ℕ) (before : List Item) (at : ℕ) (items : List Item) → Tiles (values (characters text)) before at items → Rest text at items
+order text before at [] tiles p space first h = h.within
+order text before at (it ∷ items) tiles p space first h =
     by_kind text it.kind it p space first items
     (subst (λ (n : ℕ). n < it.to) (sym tiles.0) tiles.1)
     (subst (λ (n : ℕ). it.to ≤ n) (values_length (characters text)) tiles.2)
     (subst (λ (n : ℕ). Fits text p n) (sym tiles.0) h)
-    (order text (line_after (values (characters text)) line it) it.to items tiles.4)
+    (order text (it ∷ before) it.to items tiles.4)
 
 pub lexed_order : (text : List ℕ) (lexed : Lexed) → Lexes text lexed → AreInOrder 0 (length text) lexed.tokens
 lexed_order text lexed h =
     subst (AreInOrder 0 (length text)) (sym h.tokens)
-    (order text Start 0 h.items h.tiles 0 false true (record { within = omega arith; before = λ l. omega arith }))
+    (order text [] 0 h.items h.tiles 0 false true (record { within = omega arith; before = λ l. omega arith }))

@@ -116,10 +116,10 @@ plain_starts text (suc n) at p e =
     let h : at < length text = omega arith in
     ap starts (plain_piece text n at p h) ∙ ap (λ (xs : List ℕ). at ∷ xs) (plain_starts text n (at + 1) p (omega arith))
 
-pub plain_held : (text : List ℕ) → length text ≤ 2 ^ 28 → IsPlain text → IsHeld text None
+pub plain_held : (text chars : List ℕ) → length text ≤ 2 ^ 28 → IsPlain text → chars ≡ text → IsHeld text chars None
 unfolding characters
-plain_held text h p = record {
+plain_held text chars h p e = record {
   short = h;
-  values = sym (plain_values text (length text) 0 p (omega arith));
+  values = e ∙ sym (plain_values text (length text) 0 p (omega arith));
   starts = sym (plain_starts text (length text) 0 p (omega arith));
 }

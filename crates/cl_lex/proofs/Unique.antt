@@ -7,14 +7,12 @@ use Rattle.cl_lex.specs.declared.item.Item.{Item}
 use Rattle.cl_lex.specs.declared.item.ItemKind.{ItemKind}
 use Rattle.cl_lex.specs.declared.item.ItemKind.TheVariants as item
 use Rattle.cl_base.specs.declared.token.Lexed.{Lexed}
-use Rattle.cl_lex.specs.declared.item.Line.{Line}
-use Rattle.cl_lex.specs.declared.item.Line.TheVariants.{Start}
 use Rattle.cl_lex.specs.Source.{characters, values}
 use Rattle.cl_lex.specs.Lexing.{Lexes, faults_of, tokens_of}
 use Rattle.cl_lex.specs.Bytes.{is_name_byte}
 use Rattle.cl_lex.specs.Spelling.{IsBlockComment, IsChar, IsHeader, IsIdent, IsLineComment, IsNumber, IsOpenComment, IsStr, char_prefix, str_prefix}
 use Rattle.cl_lex.specs.Punctuators.{is_punctuator, is_punctuator_2, is_punctuator_3}
-use Rattle.cl_lex.specs.Items.{IsAlone, IsItem, IsLoneQuote, IsLongest, IsStray, Spells, Tiles, line_after, takes_header}
+use Rattle.cl_lex.specs.Items.{IsAlone, IsItem, IsLoneQuote, IsLongest, IsStray, Spells, Tiles, takes_header}
 use Rattle.cl_lex.proofs.Classes.{class, fits, may, punct_four, str_prefix_is}
 
 order : (x y : ℕ) → (x < y) ⊎ ((y < x) ⊎ (x ≡ y))
@@ -93,8 +91,8 @@ module _ (cs : List ℕ) (header : Bool) (from to : ℕ) where
   same_kind (item.Token kind.Str) (item.Token kind.Ident) s t = absurd (ident_str cs from to t s.0)
   same_kind (item.Token kind.Str) (item.Token kind.Char) s t = absurd (char_str cs from to t s.0)
   same_kind (item.Token kind.Str) (item.Token kind.Str) s t = refl
-  same_kind (item.Token kind.Str) (item.Token kind.Header) s t = absurd (s.1 t.0 to t.1)
-  same_kind (item.Token kind.Header) (item.Token kind.Str) s t = absurd (t.1 s.0 to s.1)
+  same_kind (item.Token kind.Str) (item.Token kind.Header) s t = absurd (s.1 t.0 t.1)
+  same_kind (item.Token kind.Header) (item.Token kind.Str) s t = absurd (t.1 s.0 s.1)
   same_kind (item.Token kind.Header) (item.Token kind.Header) s t = refl
   same_kind (item.Token kind.Header) (item.Token kind.Punct) s t = absurd (header_punct cs from to s.1 t)
   same_kind (item.Token kind.Punct) (item.Token kind.Number) s t = absurd (number_punct cs from to t s)
@@ -177,20 +175,20 @@ same_item cs header k j from a b p q = go (either cs header from a k p) (either 
     go (inr s) (inl t) = absurd (s.stray j b t.within t.spells)
     go (inr s) (inr t) = record { kinds = s.is ∙ sym t.is; ends = stray_end cs from a b s.ends t.ends }
 
-pub one_tiling : (cs : List ℕ) (line : Line) (at : ℕ) (xs ys : List Item) → Tiles cs line at xs → Tiles cs line at ys → xs ≡ ys
-one_tiling cs line at [] [] a b = refl
-one_tiling cs line at [] (y ∷ ys) a b = absurd (omega (arith, a, b.1, b.2))
-one_tiling cs line at (x ∷ xs) [] a b = absurd (omega (arith, a.1, a.2, b))
-one_tiling cs line at (x ∷ xs) (y ∷ ys) a b =
-    let same = same_item cs (takes_header line) x.kind y.kind at x.to y.to a.3 b.3 in
+pub one_tiling : (cs : List ℕ) (before : List Item) (at : ℕ) (xs ys : List Item) → Tiles cs before at xs → Tiles cs before at ys → xs ≡ ys
+one_tiling cs before at [] [] a b = refl
+one_tiling cs before at [] (y ∷ ys) a b = absurd (omega (arith, a, b.1, b.2))
+one_tiling cs before at (x ∷ xs) [] a b = absurd (omega (arith, a.1, a.2, b))
+one_tiling cs before at (x ∷ xs) (y ∷ ys) a b =
+    let same = same_item cs (takes_header cs before) x.kind y.kind at x.to y.to a.3 b.3 in
     let first : x ≡ y = λ i. record { kind = same.kinds i; from = (a.0 ∙ sym b.0) i; to = same.ends i } in
-    let rest : xs ≡ ys = one_tiling cs (line_after cs line x) x.to xs ys a.4 (subst (λ (it : Item). Tiles cs (line_after cs line it) it.to ys) (sym first) b.4) in
+    let rest : xs ≡ ys = one_tiling cs (x ∷ before) x.to xs ys a.4 (subst (λ (it : Item). Tiles cs (it ∷ before) it.to ys) (sym first) b.4) in
     λ i. first i ∷ rest i
 
 -- the tokens and the faults are those of the items, of which there is one list
 pub one_lexed : (text : List ℕ) (x y : Lexed) → Lexes text x → Lexes text y → x ≡ y
 one_lexed text x y a b =
-    let items : a.items ≡ b.items = one_tiling (values (characters text)) Start 0 a.items b.items a.tiles b.tiles in
+    let items : a.items ≡ b.items = one_tiling (values (characters text)) [] 0 a.items b.items a.tiles b.tiles in
     λ i. record {
       tokens = (a.tokens ∙ ap (tokens_of (characters text) false true) items ∙ sym b.tokens) i;
       faults = (a.faults ∙ ap (faults_of (characters text)) items ∙ sym b.faults) i;

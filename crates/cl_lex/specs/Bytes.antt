@@ -7,6 +7,10 @@ is_between low high c = nat_le low c && nat_le c high
 abbrev pub is_digit : ℕ → Bool
 is_digit c = is_between 48 57 c
 
+-- a hexadecimal digit (6.4.4.1)
+abbrev pub is_hex : ℕ → Bool
+is_hex c = is_digit c || is_between 65 70 c || is_between 97 102 c
+
 -- a letter or `_` (6.4.2.1, nondigit)
 abbrev pub is_name_start : ℕ → Bool
 is_name_start c = is_between 65 90 c || is_between 97 122 c || c == 95

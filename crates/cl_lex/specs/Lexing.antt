@@ -9,7 +9,6 @@ use Rattle.cl_base.specs.Characters.{char_len}
 use Rattle.cl_lex.specs.declared.item.Item.{Item}
 use Rattle.cl_lex.specs.declared.item.ItemKind.{ItemKind}
 use Rattle.cl_lex.specs.declared.item.ItemKind.TheVariants as item
-use Rattle.cl_lex.specs.declared.item.Line.TheVariants as line
 use Rattle.cl_lex.specs.Bytes.{is_quote}
 use Rattle.cl_lex.specs.Source.{Character, characters, values}
 use Rattle.cl_lex.specs.Items.{Tiles}
@@ -78,6 +77,11 @@ module _ (cs : List Character) where
 -- the tokens and the faults of a text are those of its items
 pub record Lexes (text : List ℕ) (lexed : Lexed) : Type 0 where
   pub items : List Item
-  pub tiles : Tiles (values (characters text)) line.Start 0 items
+  pub tiles : Tiles (values (characters text)) [] 0 items
   pub tokens : lexed.tokens ≡ tokens_of (characters text) false true items
   pub faults : lexed.faults ≡ faults_of (characters text) items
+
+-- a text has tokens and faults
+pub record HasLexing (text : List ℕ) : Type 0 where
+  pub lexed : Lexed
+  pub lexes : Lexes text lexed

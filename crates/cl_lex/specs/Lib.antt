@@ -7,3 +7,4 @@ pub mod Punctuators
 pub mod Items
 pub mod Lexing
 pub mod Order
+pub mod code

@@ -1,7 +1,7 @@
 -- What the tokens, the comments and the white space of a text are spelled with (N1570 6.4). `cs` are the characters of a
 -- text after phases 1 and 2, and what is spoken of lies from one of them up to, and without, another, counted from 0.
 use Rattle.std.specs.Prelude.{◌≡◌, ◌≢◌, ◌⊎◌, ℕ, zero, suc, ◌+◌, ◌-◌, ◌<◌, ◌≤◌, ◌&&◌, ◌||◌, ◌==◌, List, length, slice_index, Bool, true, false, not, if◌then◌else◌}
-use Rattle.cl_lex.specs.Bytes.{is_blank, is_digit, is_exponent, is_name_byte, is_name_start, is_sign}
+use Rattle.cl_lex.specs.Bytes.{is_blank, is_digit, is_exponent, is_hex, is_name_byte, is_name_start, is_sign}
 use Rattle.cl_lex.specs.Source.{stands}
 
 module _ (cs : List ℕ) where
@@ -94,3 +94,15 @@ module _ (cs : List ℕ) where
 
   abbrev pub IsNewLine : ℕ → ℕ → Type 0
   IsNewLine from to = (to ≡ from + 1) × (slice_index cs from ≡ 10)
+
+  -- so many hexadecimal digits stand here
+  abbrev pub are_hex : ℕ → ℕ → Bool
+  are_hex from zero = true
+  are_hex from (suc n) = is_hex (slice_index cs from) && are_hex (from + 1) n
+
+  -- how many characters the universal character name has that begins here, 0 where none does: `\u` and four hexadecimal
+  -- digits, or `\U` and eight (6.4.3)
+  abbrev pub universal_len : ℕ → ℕ
+  universal_len from =
+      if stands cs from 92 && stands cs (from + 1) 117 && are_hex (from + 2) 4 then 6 else
+      if stands cs from 92 && stands cs (from + 1) 85 && are_hex (from + 2) 8 then 10 else 0

@@ -1,7 +1,7 @@
 //! The kinds of characters.
 
-ghost use Rattle.std.specs.Prelude.{◌≡◌};
-ghost use Rattle.cl_lex.specs.Bytes.{is_blank, is_digit, is_exponent, is_name_byte, is_name_start, is_quote, is_sign};
+ghost use Rattle.std.specs.Prelude.{◌≡◌, slice_index};
+ghost use Rattle.cl_lex.specs.Bytes.{is_blank, is_digit, is_exponent, is_hex, is_name_byte, is_name_start, is_quote, is_sign};
 ghost use Rattle.cl_lex.specs.Source.{stands};
 
 /// Whether the character is a letter or `_` (N1570 6.4.2.1, nondigit).
@@ -16,6 +16,13 @@ pub(crate) fn is_digit(c: u8) -> bool
     ensures { result ≡ is_digit c }
 {
     matches!(c, b'0'..=b'9')
+}
+
+/// Whether the character is a hexadecimal digit.
+pub(crate) fn is_hex(c: u8) -> bool
+    ensures { result ≡ is_hex c }
+{
+    matches!(c, b'0'..=b'9' | b'A'..=b'F' | b'a'..=b'f')
 }
 
 /// Whether the character is a letter, `_` or a digit.
@@ -51,6 +58,16 @@ pub(crate) fn is_quote(c: u8) -> bool
     ensures { result ≡ is_quote c }
 {
     matches!(c, b'"' | b'\'')
+}
+
+/// Whether `"` or `'` stands there.
+pub(crate) fn is_quote_at(text: &[u8], at: usize) -> bool
+    ensures { result ≡ is_quote (slice_index text.now at) }
+{
+    match text.get(at) {
+        Some(found) => is_quote(*found),
+        None => false,
+    }
 }
 
 /// Whether this character stands there.

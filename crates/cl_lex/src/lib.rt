@@ -13,7 +13,8 @@ mod scan;
 mod single;
 mod source;
 mod tokens;
+mod universal;
 
-pub use laws::one_lexing;
+pub use laws::{one_lexing, some_lexing};
 pub use single::one_token;
 pub use tokens::lex;

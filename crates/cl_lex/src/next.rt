@@ -3,14 +3,16 @@
 ghost use Rattle.std.specs.Prelude.{◌≡◌, ◌≢◌, ◌<◌, ◌≤◌, Bool, false, length, slice_index, true};
 ghost use Rattle.cl_lex.specs.Bytes.{is_blank, is_digit, is_name_start};
 ghost use Rattle.cl_lex.specs.Items.{IsItem};
+ghost use Rattle.cl_lex.specs.Spelling.{IsStr};
 
-use crate::bytes::{is_blank, is_digit, is_name_start, stands};
+use crate::bytes::{is_blank, is_digit, is_name_start, is_quote_at, stands};
 use crate::comment::comment_end;
 use crate::item::{Item, ItemKind};
 use crate::punctuator::punctuator_len;
 use crate::quoted::{char_end, header_end, str_end};
 use crate::scan::{blank_end, line_end, name_end, number_end};
-use cl_base::{Kind, char_len};
+use crate::universal::alone_end;
+use cl_base::Kind;
 
 /// The item that begins at a character of a text. `header` says that a header name may be formed there.
 pub(crate) fn next_item(chars: &[u8], at: usize, header: bool) -> Item
@@ -45,8 +47,28 @@ pub(crate) fn next_item(chars: &[u8], at: usize, header: bool) -> Item
     }
 }
 
-/// What begins with a letter or `_`: an identifier, or a character constant or a string literal with a prefix.
+/// What begins with a letter or `_`: an identifier, or, where a quote stands after it, maybe a literal.
 fn word(chars: &[u8], at: usize) -> Item
+    requires within { at < length chars.now }
+    requires first { is_name_start (slice_index chars.now at) ≡ true }
+    ensures from { result.from ≡ at }
+    ensures grows { at < result.to }
+    ensures within { result.to ≤ length chars.now }
+    ensures item { (header : Bool) → IsItem chars.now header result.kind at result.to }
+{
+    let to = name_end(chars, at + 1);
+    if is_quote_at(chars, to) {
+        return prefixed(chars, at);
+    }
+    Item {
+        kind: ItemKind::Token(Kind::Ident),
+        from: at,
+        to,
+    }
+}
+
+/// What begins with a letter or `_`: a character constant or a string literal with a prefix, or else an identifier.
+fn prefixed(chars: &[u8], at: usize) -> Item
     requires within { at < length chars.now }
     requires first { is_name_start (slice_index chars.now at) ≡ true }
     ensures from { result.from ≡ at }
@@ -199,16 +221,12 @@ fn double_quote(chars: &[u8], at: usize, header: bool) -> Item
     ensures within { result.to ≤ length chars.now }
     ensures item { IsItem chars.now header result.kind at result.to }
 {
+    if let Some(to) = str_end(chars, at) {
+        return string_or_name(chars, at, to, header);
+    }
     if let Some(to) = header_end(chars, at, header) {
         return Item {
             kind: ItemKind::Token(Kind::Header),
-            from: at,
-            to,
-        };
-    }
-    if let Some(to) = str_end(chars, at) {
-        return Item {
-            kind: ItemKind::Token(Kind::Str),
             from: at,
             to,
         };
@@ -217,6 +235,34 @@ fn double_quote(chars: &[u8], at: usize, header: bool) -> Item
         kind: ItemKind::Token(Kind::Other),
         from: at,
         to: line_end(chars, at + 1),
+    }
+}
+
+/// Where a string literal begins and ends: a header name, if one may be formed that is as long, and else the literal.
+fn string_or_name(chars: &[u8], at: usize, to: usize, header: bool) -> Item
+    requires within { at < length chars.now }
+    requires first { slice_index chars.now at ≡ 34 }
+    requires is { IsStr chars.now at to }
+    requires grows { at < to }
+    requires ends { to ≤ length chars.now }
+    ensures from { result.from ≡ at }
+    ensures grows { at < result.to }
+    ensures within { result.to ≤ length chars.now }
+    ensures item { IsItem chars.now header result.kind at result.to }
+{
+    if let Some(name) = header_end(chars, at, header)
+        && name >= to
+    {
+        return Item {
+            kind: ItemKind::Token(Kind::Header),
+            from: at,
+            to: name,
+        };
+    }
+    Item {
+        kind: ItemKind::Token(Kind::Str),
+        from: at,
+        to,
     }
 }
 
@@ -264,7 +310,7 @@ fn mark(chars: &[u8], at: usize) -> Item
         0 => Item {
             kind: ItemKind::Token(Kind::Other),
             from: at,
-            to: at + char_len(chars, at).max(1),
+            to: alone_end(chars, at),
         },
         len => Item {
             kind: ItemKind::Token(Kind::Punct),

@@ -1,10 +1,37 @@
 //! The punctuators.
 
 ghost use Rattle.std.specs.Prelude.{◌≡◌, ℕ, ◌+◌, ◌<◌, ◌≤◌, length, true};
+ghost use Rattle.cl_lex.specs.code.Scans.{is_single};
 ghost use Rattle.cl_lex.specs.Punctuators.{is_punctuator, is_punctuator_1, is_punctuator_2, is_punctuator_3, is_punctuator_4};
 
 /// How many characters, 1 to 4, the longest punctuator has that begins here (N1570 6.4.6), and 0 where none begins.
+#[inline(always)]
 pub(crate) fn punctuator_len(chars: &[u8], at: usize) -> usize
+    requires { at < length chars.now }
+    ensures within { at + result ≤ length chars.now }
+    ensures some { 0 < result → is_punctuator chars.now at result ≡ true }
+    ensures longest { (n : ℕ) → result < n → at + n ≤ length chars.now → is_punctuator chars.now at n ≡ true → ⊥ }
+{
+    if is_single(chars[at]) {
+        return 1;
+    }
+    longest_len(chars, at)
+}
+
+/// Whether the character is a punctuator that begins no longer one.
+#[inline(always)]
+fn is_single(c: u8) -> bool
+    ensures { result ≡ is_single c }
+{
+    matches!(
+        c,
+        b'(' | b')' | b',' | b';' | b'[' | b']' | b'{' | b'}' | b'?' | b'~'
+    )
+}
+
+/// The same, by the characters after it.
+#[inline(never)]
+fn longest_len(chars: &[u8], at: usize) -> usize
     requires { at < length chars.now }
     ensures within { at + result ≤ length chars.now }
     ensures some { 0 < result → is_punctuator chars.now at result ≡ true }

@@ -5,6 +5,7 @@ ghost use Rattle.cl_lex.specs.Bytes.{is_blank, is_name_byte};
 ghost use Rattle.cl_lex.specs.Spelling.{AllPass, HasNone, goes_on_number};
 
 use crate::bytes::{is_blank, is_exponent, is_name_byte, is_sign};
+use memchr::memchr;
 
 /// Where the letters, `_` and digits end that stand from a character on.
 pub(crate) fn name_end(chars: &[u8], from: usize) -> usize
@@ -44,11 +45,11 @@ pub(crate) fn line_end(chars: &[u8], from: usize) -> usize
     ensures all { HasNone chars.now 10 from result }
     ensures stops { result < length chars.now → slice_index chars.now result ≡ 10 }
 {
-    let mut at = from;
-    while at < chars.len() && chars[at] != b'\n' {
-        at += 1;
+    let (_, rest) = chars.split_at(from);
+    match memchr(b'\n', rest) {
+        Some(place) => from + place,
+        None => chars.len(),
     }
-    at
 }
 
 /// Where a preprocessing number ends that began before this character (N1570 6.4.8).

@@ -1,13 +1,13 @@
 //! The characters of a text after translation phases 1 and 2 (N1570 5.1.1.2).
 
-ghost use Rattle.std.specs.Prelude.{◌≡◌, ◌≤◌, ◌<◌, ◌^◌, ◌↔◌, ◌++◌, ◌∷◌, [], IfOk, OnOk, IsTrue, Some, None, length, slice_index, ℕ, false};
+ghost use Rattle.std.specs.Prelude.{◌≡◌, ◌≤◌, ◌<◌, ◌^◌, ◌↔◌, ◌++◌, ◌∷◌, [], IfOk, OnOk, IsTrue, Some, None, length, slice_index, slice_range, ℕ, false};
 ghost use Rattle.cl_lex.specs.Source.{characters, values};
 ghost use Rattle.cl_lex.specs.Lexing.{begins, ends};
-ghost use Rattle.cl_lex.specs.Held.{IsHeld};
+ghost use Rattle.cl_lex.specs.Held.{IsJoined};
 ghost use Rattle.cl_lex.specs.Plain.{IsPlain, is_plain_at, is_special};
 
 use crate::pieces::{is_splice, splice_width, value_at, width_at};
-use cl_base::Mem;
+use cl_base::{Mem, Name, Text};
 use memchr::memchr3;
 use std::alloc::Global;
 use std::marker::Model;
@@ -16,7 +16,14 @@ use std::marker::Model;
 #[derive(Drop)]
 pub struct Source<'a> {
     text: &'a [u8],
-    joined: Option<Joined>,
+    chars: Text,
+    starts: Option<Starts>,
+}
+
+/// Where each character of a text begins.
+#[derive(Drop)]
+struct Starts {
+    places: Vec<u32>,
 }
 
 /// The characters of a text in which some are written with several bytes: their values, and where each begins.
@@ -34,7 +41,7 @@ impl<'a> Model for Source<'a> {
 
     ghost view = { λ s. s.text.now };
 
-    ghost invariant = { λ s. IsHeld s.text.now s.joined };
+    ghost invariant = { λ s. IsHeld s.text.now s.chars s.starts };
 }
 
 impl<'a> Source<'a> {
@@ -44,12 +51,20 @@ impl<'a> Source<'a> {
         ensures { IfOk result (λ s. s ≡ text.now) }
     {
         if is_plain(text) {
-            return Ok(Source { text, joined: None });
+            let chars = Text::new(alloc, text)?;
+            return Ok(Source {
+                text,
+                chars,
+                starts: None,
+            });
         }
-        let joined = join(alloc, text)?;
+        let Joined { values, starts } = join(alloc, text)?;
+        let chars = Text::from_vec(alloc, values)?;
+        let starts = Some(Starts { places: starts });
         Ok(Source {
             text,
-            joined: Some(joined),
+            chars,
+            starts,
         })
     }
 
@@ -60,10 +75,17 @@ impl<'a> Source<'a> {
         ensures count { length result.now ≤ length self.now }
         ensures short { length self.now ≤ 2 ^ 28 }
     {
-        match &self.joined {
-            None => self.text,
-            Some(joined) => joined.values.as_slice(),
-        }
+        self.chars.bytes()
+    }
+
+    /// The characters from one up to, and without, another, as a name that shares them.
+    pub fn name(&self, alloc: Global, from: usize, to: usize) -> Mem<Name>
+        requires order { from ≤ to }
+        requires within { to ≤ length (characters self.now) }
+        ensures { IfOk result (λ name. name ≡ slice_range (values (characters self.now)) from to) }
+    {
+        let name = Name::cut(alloc, &self.chars, from as u32, to as u32)?;
+        Ok(name)
     }
 
     /// The byte of the text at which a character begins.
@@ -73,9 +95,9 @@ impl<'a> Source<'a> {
         ensures within { result < length self.now }
         ensures short { length self.now ≤ 2 ^ 28 }
     {
-        match &self.joined {
+        match &self.starts {
             None => at as u32,
-            Some(joined) => joined.starts[at],
+            Some(starts) => starts.places[at],
         }
     }
 
@@ -87,8 +109,13 @@ impl<'a> Source<'a> {
         ensures within { result ≤ length self.now }
         ensures short { length self.now ≤ 2 ^ 28 }
     {
-        let last = self.begins(to - 1);
-        last + width_at(self.text, last as usize) as u32
+        match &self.starts {
+            None => to as u32,
+            Some(starts) => {
+                let last = starts.places[to - 1];
+                last + width_at(self.text, last as usize) as u32
+            }
+        }
     }
 }
 
@@ -168,7 +195,7 @@ fn is_plain(text: &[u8]) -> bool
 /// The characters of a text, and where they begin.
 fn join(alloc: Global, text: &[u8]) -> Mem<Joined>
     requires { length text.now ≤ 2 ^ 28 }
-    ensures { IfOk result (λ joined. IsHeld text.now (Some joined)) }
+    ensures { IfOk result (λ joined. IsJoined text.now joined) }
 {
     let mut joined = Joined {
         values: Vec::with_capacity(alloc, text.len())?,

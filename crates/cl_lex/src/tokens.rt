@@ -1,8 +1,8 @@
 //! Cuts a text into its tokens.
 
-ghost use Rattle.std.specs.Prelude.{◌≡◌, ◌<◌, ◌≤◌, ◌+◌, ◌++◌, length, slice_index, option_to_list, IfOk, OnOk};
+ghost use Rattle.std.specs.Prelude.{◌≡◌, ◌<◌, ◌≤◌, ◌+◌, ◌++◌, length, slice_index, slice_range, option_to_list, IfOk, OnOk};
 ghost use Rattle.cl_lex.specs.Source.{characters, values};
-ghost use Rattle.cl_lex.specs.Items.{is_hash, line_after, line_by, takes_header};
+ghost use Rattle.cl_lex.specs.code.Machine.{is_include_line, line_by};
 ghost use Rattle.cl_lex.specs.Order.{AreInOrder};
 ghost use Rattle.cl_lex.specs.Lexing.{Lexes, fault_of, faults_by, first_after, space_after, stray_faults, token_of, tokens_by};
 
@@ -10,7 +10,7 @@ use crate::bytes::is_quote;
 use crate::item::{Item, ItemKind, Line};
 use crate::next::next_item;
 use crate::source::Source;
-use cl_base::{Fault, Kind, Lexed, List, Mem, Memory, Name, Token, char_len};
+use cl_base::{Fault, Kind, Lexed, List, Mem, Memory, Token, char_len, spells_hash};
 use std::alloc::Global;
 
 /// The most bytes that a text to be cut may have: 2^28.
@@ -66,7 +66,7 @@ fn lexed(alloc: Global, source: &Source<'_>) -> Mem<Lexed>
 
 /// Whether a header name may be formed here (N1570 6.4p4).
 fn takes_header(line: Line) -> bool
-    ensures { result ≡ takes_header line }
+    ensures { result ≡ is_include_line line }
 {
     matches!(line, Line::Include)
 }
@@ -76,7 +76,7 @@ fn after(chars: &[u8], item: Item, before: Before) -> Before
     requires order { item.from ≤ item.to }
     requires within { item.to ≤ length chars.now }
     ensures { result ≡ record {
-      line = line_after chars.now before.line item;
+      line = line_by before.line item.kind (slice_range chars.now item.from item.to);
       space = space_after item.kind;
       first = first_after item.kind before.first;
     } }
@@ -107,20 +107,13 @@ fn line_after(before: Line, kind: ItemKind, text: &[u8]) -> Line
 {
     match (kind, before) {
         (ItemKind::NewLine, _) => Line::Start,
-        (ItemKind::Token(Kind::Punct), Line::Start) if is_hash(text) => Line::Hash,
+        (ItemKind::Token(Kind::Punct), Line::Start) if spells_hash(text) => Line::Hash,
         (ItemKind::Token(Kind::Ident), Line::Hash) if text == b"include".as_slice() => {
             Line::Include
         }
         (ItemKind::Token(_), _) => Line::Rest,
         (ItemKind::Comment | ItemKind::OpenComment | ItemKind::Space, before) => before,
     }
-}
-
-/// Whether this spells `#` or its digraph.
-fn is_hash(text: &[u8]) -> bool
-    ensures { result ≡ is_hash text.now }
-{
-    text == b"#".as_slice() || text == b"%:".as_slice()
 }
 
 /// Adds what an item gives: its token, if it is one, and its fault, if it has one. After want of memory the list is as
@@ -148,7 +141,7 @@ fn token(alloc: Global, source: &Source<'_>, kind: Kind, item: Item, before: Bef
     requires within { item.to ≤ length (characters source.now) }
     ensures { IfOk result (λ token. token ≡ token_of (characters source.now) kind item before.space before.first) }
 {
-    let text = Name::new(alloc, &source.chars()[item.from..item.to])?;
+    let text = source.name(alloc, item.from, item.to)?;
     Ok(Token {
         kind,
         text,

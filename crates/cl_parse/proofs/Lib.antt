@@ -1,2 +1,3 @@
 pub mod Unique
 pub mod Within
+pub mod Existing

@@ -1,9 +1,8 @@
 -- A token by its index, from 0. Past the end there is none: it spells nothing and lies nowhere.
-use Rattle.std.specs.Prelude.{ℕ, List, [], Bool, true, false, Option, Some, None, slice_get}
-use Rattle.cl_base.specs.declared.token.Kind.{Kind}
-use Rattle.cl_base.specs.declared.token.Kind.TheVariants.{Ident}
+use Rattle.std.specs.Prelude.{ℕ, List, [], Bool, false, Option, Some, None, slice_get}
 use Rattle.cl_base.specs.declared.token.Span.{Span}
 use Rattle.cl_base.specs.declared.token.PpToken.{PpToken}
+use Rattle.cl_base.specs.Tokens.{is_ident}
 
 abbrev pub text_of : Option PpToken → List ℕ
 text_of None = []
@@ -11,10 +10,6 @@ text_of (Some token) = token.text
 
 abbrev pub text_at : List PpToken → ℕ → List ℕ
 text_at tokens i = text_of (slice_get tokens i)
-
-abbrev pub is_ident : Kind → Bool
-is_ident Ident = true
-is_ident _ = false
 
 abbrev pub is_ident_of : Option PpToken → Bool
 is_ident_of None = false

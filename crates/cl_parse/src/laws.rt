@@ -9,3 +9,8 @@ ghost use Rattle.cl_parse.specs.Items.{ItemsOf};
 pub fn one_item_list()
     ensures { (tokens : List PpToken) (xs ys : List Item) → ItemsOf tokens xs → ItemsOf tokens ys → xs ≡ ys }
 {}
+
+/// Every list of tokens has a list of items.
+pub fn some_items()
+    ensures { (tokens : List PpToken) → (items : List Item) × ItemsOf tokens items }
+{}

@@ -9,6 +9,6 @@ mod token;
 
 pub use item::Item;
 pub use keywords::is_keyword;
-pub use laws::one_item_list;
+pub use laws::{one_item_list, some_items};
 pub use parse::items;
 pub use token::{span_at, text_at};

@@ -3,7 +3,7 @@
 ghost use Rattle.std.specs.Prelude.{◌≡◌};
 ghost use Rattle.cl_parse.specs.Tokens.{is_ident_at, span_at, text_at};
 
-use cl_base::{Kind, PpToken, Span};
+use cl_base::{PpToken, Span};
 
 /// What the token at this index, from 0, spells. From the length on that is nothing.
 pub fn text_at(tokens: &[PpToken], at: usize) -> &[u8]
@@ -34,7 +34,7 @@ pub(crate) fn is_ident_at(tokens: &[PpToken], at: usize) -> bool
     ensures { result ≡ is_ident_at tokens.now at }
 {
     match tokens.get(at) {
-        Some(token) => matches!(token.kind, Kind::Ident),
+        Some(token) => token.kind.is_ident(),
         None => false,
     }
 }

@@ -1,8 +1,9 @@
 mod Deciding
 mod Straying
-mod Working
 mod Standing
-mod Values
+mod Branching
 mod Going
+mod Order
 mod Found
+mod Existing
 pub mod Unique

@@ -1,12 +1,11 @@
 -- The tokens of a condition (N1570 6.10.1p1): `defined NAME` and `defined ( NAME )` are taken first. No macro is defined
 -- at this stage, so each is 0.
-use Rattle.std.specs.Prelude.{ℕ, zero, suc, ◌-◌, ◌==◌, ◌&&◌, List, [], ◌∷◌, Bool, true, false, if◌then◌else◌, Option, Some, None, slice_get, nat_eq, codes}
-use Rattle.std.specs.Cmp.Lexicographic.{pointwise}
-use Rattle.cl_base.specs.declared.token.Kind.{Kind}
+use Rattle.std.specs.Prelude.{ℕ, zero, suc, ◌-◌, ◌==◌, ◌&&◌, List, [], ◌∷◌, Bool, if◌then◌else◌, Option, Some, None, slice_get, codes}
 use Rattle.cl_base.specs.declared.token.Kind.TheVariants as kind
 use Rattle.cl_base.specs.declared.token.Span.{Span}
 use Rattle.cl_base.specs.declared.token.Token.{Token}
 use Rattle.cl_base.specs.declared.token.PpToken.{PpToken}
+use Rattle.cl_base.specs.Tokens.{is_ident, is_word, spells}
 
 -- a token of the document, which is the file 0
 abbrev pub span_at : ℕ → ℕ → Span
@@ -15,20 +14,10 @@ span_at from to = record { file = 0; from = from; to = to }
 abbrev pub spread : Token → PpToken
 spread token = record { kind = token.kind; text = token.text; space = token.space; spell = Some (span_at token.from token.to); at = span_at token.from token.to }
 
-abbrev pub is_ident : Kind → Bool
-is_ident kind.Ident = true
-is_ident _ = false
-
-abbrev pub is_word : Token → List ℕ → Bool
-is_word token word = is_ident token.kind && pointwise nat_eq token.text word
-
-abbrev pub is_mark : Token → List ℕ → Bool
-is_mark token text = pointwise nat_eq token.text text
-
 -- how many tokens are the operand of a `defined` before them: a name, or a name in parentheses; 0 where none stands there
 abbrev pub closed_len : Bool → List Token → ℕ
 closed_len named [] = 0
-closed_len named (c ∷ ts) = if named && is_mark c (codes ")") then 3 else 0
+closed_len named (c ∷ ts) = if named && spells c.text (codes ")") then 3 else 0
 
 abbrev pub named_len : List Token → ℕ
 named_len [] = 0
@@ -36,7 +25,7 @@ named_len (b ∷ ts) = closed_len (is_ident b.kind) ts
 
 abbrev pub operand_len : List Token → ℕ
 operand_len [] = 0
-operand_len (a ∷ ts) = if is_ident a.kind then 1 else if is_mark a (codes "(") then named_len ts else 0
+operand_len (a ∷ ts) = if is_ident a.kind then 1 else if spells a.text (codes "(") then named_len ts else 0
 
 -- and how many follow this token that belong to it
 abbrev pub taken : Token → List Token → ℕ

@@ -1,7 +1,8 @@
 pub mod Defined
 pub mod Activity
-pub mod Stacks
+pub mod Branching
 pub mod Lines
 pub mod Branches
-pub mod Places
 pub mod Preprocessing
+pub mod Places
+pub mod code

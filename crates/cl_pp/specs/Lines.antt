@@ -7,16 +7,13 @@ use Rattle.cl_base.specs.declared.token.Token.{Token}
 use Rattle.cl_base.specs.declared.token.PpToken.{PpToken}
 use Rattle.cl_base.specs.declared.token.Fault.{Fault}
 use Rattle.cl_base.specs.declared.token.Diag.{Diag}
-use Rattle.cl_base.specs.Characters.{char_len}
 use Rattle.cl_cond.specs.declared.eval.IfValue.{IfValue}
 use Rattle.cl_cond.specs.declared.eval.IfValue.TheVariants.{Value, BadIf}
 use Rattle.cl_cond.specs.declared.mark.Condition.{Condition}
 use Rattle.cl_cond.specs.declared.mark.Condition.TheVariants.{If, IfDef, IfNDef, Elif, Else}
 use Rattle.cl_cond.specs.declared.mark.Mark.{Mark}
-use Rattle.cl_cond.specs.declared.mark.Part.{Part}
-use Rattle.cl_cond.specs.declared.mark.Part.TheVariants.{Branch}
-use Rattle.cl_cond.specs.Lines.{is_hash}
-use Rattle.cl_pp.specs.Defined.{decided, is_ident, is_word, span_at, spread}
+use Rattle.cl_base.specs.Tokens.{is_hash, is_ident, is_word}
+use Rattle.cl_pp.specs.Defined.{decided, span_at, spread}
 
 abbrev pub diag : ℕ → ℕ → ℕ → Diag
 diag number from to = record { number = number; at = span_at from to; name = None }
@@ -47,27 +44,20 @@ spread_line line = map spread line
 abbrev pub plain_tokens : List Token → List PpToken
 plain_tokens line = if is_directive line then [] else spread_line line
 
--- ---- tokens that fit nothing (6.4p3)
+-- ---- what lexing tells
 
--- an Other token is a lone quote, a byte of no character, a null character, or no fault yet
-abbrev pub stray_number : List ℕ → Option ℕ
-stray_number [] = None
-stray_number (c ∷ cs) =
-    if c == 34 || c == 39 then Some 2 else
-    if char_len (c ∷ cs) 0 == 0 then Some 3 else
-    if c == 0 then Some 4 else None
+abbrev pub or_else : Option Fault → Option Fault → Option Fault
+or_else None other = other
+or_else (Some fault) other = Some fault
 
-abbrev pub at_token : Option ℕ → Token → List Diag
-at_token None token = []
-at_token (Some number) token = fault_at number token
+-- the one of these faults that begins at a byte
+abbrev pub told : List Fault → ℕ → Option Fault
+told [] at = None
+told (fault ∷ faults) at = or_else (told faults at) (if fault.from == at then Some fault else None)
 
-abbrev pub stray : Kind → Token → List Diag
-stray kind.Other token = at_token (stray_number token.text) token
-stray _ token = []
-
-abbrev pub strays : List Token → List Diag
-strays [] = []
-strays (token ∷ tokens) = stray token.kind token ++ strays tokens
+abbrev pub as_list : Option Fault → List Diag
+as_list None = []
+as_list (Some fault) = spread_fault fault ∷ []
 
 -- the tokens of `#error` and `#pragma` aren't looked at
 abbrev pub is_unread : Token → Bool
@@ -77,8 +67,18 @@ abbrev pub is_free_text : List Token → Bool
 is_free_text (hash ∷ name ∷ rest) = is_hash hash && is_unread name
 is_free_text _ = false
 
-abbrev pub line_strays : List Token → List Diag
-line_strays line = if is_free_text line then [] else strays line
+module _ (begins : ℕ → Option Fault) where
+  -- an Other token has the fault that begins where it does (6.4p3)
+  abbrev pub stray : Kind → Token → List Diag
+  stray kind.Other token = as_list (begins token.from)
+  stray _ token = []
+
+  abbrev pub strays : List Token → List Diag
+  strays [] = []
+  strays (token ∷ tokens) = stray token.kind token ++ strays tokens
+
+  abbrev pub line_strays : List Token → List Diag
+  line_strays line = if is_free_text line then [] else strays line
 
 -- ---- directives
 
@@ -132,34 +132,31 @@ abbrev pub span_or : Option PpToken → List Token → Span
 span_or (Some token) line = token.at
 span_or None line = token_span (slice_get line (length line - 1))
 
-abbrev pub bad_if : IfValue → List Token → List Diag
-bad_if (Value bits unsigned) line = []
-bad_if (BadIf place) line = record { number = 15; at = span_or (slice_get (decided (rest_of line)) place) line; name = None } ∷ []
+abbrev pub bad_if : Option IfValue → List Token → List Diag
+bad_if (Some (BadIf place)) line = record { number = 15; at = span_or (slice_get (decided (rest_of line)) place) line; name = None } ∷ []
+bad_if _ line = []
 
-abbrev pub is_true : IfValue → Bool
-is_true (Value bits unsigned) = not (bits == 0)
-is_true (BadIf place) = false
+-- a condition that is at fault counts 0
+abbrev pub is_true : Option IfValue → Bool
+is_true (Some (Value bits unsigned)) = not (bits == 0)
+is_true _ = false
 
 abbrev pub has_name : List Token → Bool
 has_name [] = false
 has_name (token ∷ tokens) = is_ident token.kind
 
--- a condition that is at fault counts 0, and no macro is defined at this stage
-abbrev pub branch_holds : Condition → List Token → IfValue → Bool
+-- whether the condition is fulfilled; no macro is defined at this stage
+abbrev pub branch_holds : Condition → List Token → Option IfValue → Bool
 branch_holds If line value = is_true value
 branch_holds Elif line value = is_true value
 branch_holds IfDef line value = false
 branch_holds IfNDef line value = has_name (rest_of line)
 branch_holds Else line value = true
 
-abbrev pub part_holds : Part → List Token → IfValue → Bool
-part_holds (Branch c) line value = branch_holds c line value
-part_holds _ line value = false
-
--- the faults of a branch's line that is looked at: a condition is worked only where its branch may be taken
-abbrev pub branch_faults : Condition → Bool → List Token → IfValue → List Diag
-branch_faults If may line value = bad_if value line
-branch_faults IfDef may line value = alone_in line
-branch_faults IfNDef may line value = alone_in line
-branch_faults Elif may line value = if may then bad_if value line else []
-branch_faults Else may line value = extra (rest_of line)
+-- the faults of a branch's line that is looked at
+abbrev pub branch_faults : Condition → List Token → Option IfValue → List Diag
+branch_faults If line value = bad_if value line
+branch_faults Elif line value = bad_if value line
+branch_faults IfDef line value = alone_in line
+branch_faults IfNDef line value = alone_in line
+branch_faults Else line value = extra (rest_of line)

@@ -1,14 +1,14 @@
 -- Where lines and tokens lie.
-use Rattle.std.specs.Prelude.{ℕ, ◌≤◌, List, [], ◌∷◌}
+use Rattle.std.specs.Prelude.{ℕ, ◌<◌, ◌≤◌, List, [], ◌∷◌}
 use Rattle.cl_base.specs.declared.token.PpToken.{PpToken}
 use Rattle.cl_cond.specs.declared.mark.Mark.{Mark}
 
--- the lines are some of so many tokens
-abbrev pub MarksLie : ℕ → List Mark → Type 0
-MarksLie count [] = Unit {0}
-MarksLie count (mark ∷ marks) = (mark.from ≤ mark.to) × (mark.to ≤ count) × MarksLie count marks
+-- between two token numbers one line follows the other
+abbrev pub MarksLie : ℕ → ℕ → List Mark → Type 0
+MarksLie at count [] = at ≤ count
+MarksLie at count (mark ∷ marks) = (at ≤ mark.from) × (mark.from ≤ mark.to) × MarksLie mark.to count marks
 
--- the tokens lie in a text of so many bytes
-abbrev pub LieWithin : ℕ → List PpToken → Type 0
-LieWithin end [] = Unit {0}
-LieWithin end (token ∷ tokens) = (token.at.from ≤ token.at.to) × (token.at.to ≤ end) × LieWithin end tokens
+-- between two bytes of the text one token follows the other, and none is empty
+abbrev pub InOrder : ℕ → ℕ → List PpToken → Type 0
+InOrder at end [] = at ≤ end
+InOrder at end (token ∷ tokens) = (at ≤ token.at.from) × (token.at.from < token.at.to) × InOrder token.at.to end tokens

@@ -3,7 +3,7 @@
 ghost use Rattle.std.specs.Prelude.{◌≡◌, ◌<◌, ◌≤◌, ◌+◌, length, IfOk};
 ghost use Rattle.cl_pp.specs.Defined.{decided, end_after, named_len, operand_len, replaced, taken, zero_for};
 
-use crate::token::{is_ident, is_mark, is_word, span_at, spread};
+use crate::token::{span_at, spread};
 use cl_base::{Kind, List, Mem, Name, PpToken, Token};
 use std::alloc::Global;
 
@@ -29,7 +29,7 @@ fn taken(token: &Token, rest: &[Token]) -> usize
     ensures value { result ≡ taken token.now rest.now }
     ensures within { result ≤ length rest.now }
 {
-    if is_word(token, b"defined".as_slice()) {
+    if token.is_word(b"defined".as_slice()) {
         operand_len(rest)
     } else {
         0
@@ -44,9 +44,9 @@ fn operand_len(tokens: &[Token]) -> usize
     let Some((first, rest)) = tokens.split_first() else {
         return 0;
     };
-    if is_ident(first) {
+    if first.kind.is_ident() {
         1
-    } else if is_mark(first, b"(".as_slice()) {
+    } else if first.text.bytes() == b"(".as_slice() {
         named_len(rest)
     } else {
         0
@@ -64,7 +64,7 @@ fn named_len(tokens: &[Token]) -> usize
     let Some((close, _)) = rest.split_first() else {
         return 0;
     };
-    if is_ident(name) && is_mark(close, b")".as_slice()) {
+    if name.kind.is_ident() && close.text.bytes() == b")".as_slice() {
         3
     } else {
         0

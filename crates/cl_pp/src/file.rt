@@ -1,21 +1,25 @@
 //! Preprocesses a file.
 
 ghost use Rattle.std.specs.Prelude.{◌≡◌, ◌≤◌, ◌++◌, [], length, map, reverse, true, IfOk, OnOk};
-ghost use Rattle.cl_cond.specs.declared.eval.IfValue.{IfValue};
-ghost use Rattle.cl_cond.specs.declared.mark.Mark.{Mark};
-ghost use Rattle.cl_pp.specs.Branches.{HasValue, Passes};
+ghost use Rattle.std.specs.Ordering.{nat_cmp};
+ghost use Rattle.std.specs.BTreeMap.{get};
+ghost use Rattle.cl_pp.specs.Activity.{Active};
+ghost use Rattle.cl_pp.specs.Branches.{IsWorked, held_by, works};
 ghost use Rattle.cl_pp.specs.Lines.{line_of, spread_fault};
-ghost use Rattle.cl_pp.specs.Places.{LieWithin, MarksLie};
-ghost use Rattle.cl_pp.specs.Preprocessing.{AreValues, Preprocesses, faults_by, faults_from, open_comments, tokens_by, tokens_from};
-ghost use Rattle.cl_pp.specs.Stacks.{tell, top_of};
+ghost use Rattle.cl_pp.specs.Places.{InOrder, MarksLie};
+ghost use Rattle.cl_pp.specs.Preprocessing.{Preprocesses, faults_by, open_comments, tokens_by};
+ghost use Rattle.cl_pp.specs.code.Stacks.{Adds, stacked, tell, top_of};
 
-use crate::look::look;
+use crate::branch::{held, value};
+use crate::look::{line_faults, line_tokens};
 use crate::section::{Section, pass, top};
-use crate::token::span_at;
+use crate::stray::told;
+use crate::token::diag;
 use cl_base::{Diag, Fault, List, Mem, PpDone, Token};
-use cl_cond::{Mark, groups};
+use cl_cond::{IfValue, Mark, groups};
 use cl_lex::lex;
 use std::alloc::Global;
+use std::collections::BTreeMap;
 
 /// The tokens of the active lines of a file, in order, and its faults (N1570 5.1.1.2 phases 1 to 4), where no macro is
 /// defined and no other file is entered. A directive gives no token. The faults, by their numbers:
@@ -33,7 +37,7 @@ use std::alloc::Global;
 /// 268,435,456 bytes is want of memory.
 pub fn preprocess(alloc: Global, text: &[u8]) -> Mem<PpDone>
     ensures done { IfOk result (λ done. Preprocesses text.now done) }
-    ensures within { IfOk result (λ done. LieWithin (length text.now) done.tokens) }
+    ensures order { IfOk result (λ done. InOrder 0 (length text.now) done.tokens) }
 {
     let lexed = lex(alloc, text)?;
     let groups = groups(alloc, lexed.tokens.as_slice())?;
@@ -43,9 +47,11 @@ pub fn preprocess(alloc: Global, text: &[u8]) -> Mem<PpDone>
         tokens: List::new(alloc),
         faults,
     };
+    let told = told(alloc, lexed.faults.as_slice())?;
     lines(
         alloc,
         lexed.tokens.as_slice(),
+        &told,
         groups.marks.as_slice(),
         &mut done,
     )?;
@@ -53,37 +59,45 @@ pub fn preprocess(alloc: Global, text: &[u8]) -> Mem<PpDone>
 }
 
 /// Adds the tokens and the faults of the lines of a file.
-fn lines(alloc: Global, tokens: &[Token], marks: &[Mark], done: &mut PpDone) -> Mem<()>
-    requires lie { MarksLie (length tokens.now) marks.now }
-    ensures tokens { OnOk result ((values : Mark → IfValue) → AreValues tokens.now values → done.new.tokens ≡ done.old.tokens ++ tokens_from tokens.now values [] marks.now) }
-    ensures faults { OnOk result ((values : Mark → IfValue) → AreValues tokens.now values → done.new.faults ≡ done.old.faults ++ faults_from tokens.now values [] marks.now) }
+fn lines(
+    alloc: Global,
+    tokens: &[Token],
+    told: &BTreeMap<u32, Fault>,
+    marks: &[Mark],
+    done: &mut PpDone,
+) -> Mem<()>
+    requires { MarksLie 0 (length tokens.now) marks.now }
+    ensures { OnOk result (Adds tokens.now (get nat_cmp told.now) marks.now done.old done.new) }
 {
     let mut sections = List::new(alloc);
     for mark in marks {
-        take_line(alloc, tokens, *mark, &mut sections, done)?;
+        take_line(alloc, tokens, told, *mark, &mut sections, done)?;
     }
     Ok(())
 }
 
-/// Adds the tokens and the faults of a line, and passes it.
+/// Adds the tokens and the faults of a line, passes it, and hands on what its condition came to.
 fn take_line(
     alloc: Global,
     tokens: &[Token],
+    told: &BTreeMap<u32, Fault>,
     mark: Mark,
     sections: &mut List<Section>,
     done: &mut PpDone,
-) -> Mem<()>
-    requires lie { (mark.from ≤ mark.to) × (mark.to ≤ length tokens.now) }
-    requires free { (top_of (reverse sections.old)).free ≡ true → (top_of (reverse sections.old)).outer ≡ true }
-    ensures tokens { OnOk result (done.new.tokens ≡ done.old.tokens ++ tokens_by mark.part (top_of (reverse sections.old)).active (line_of tokens.now mark)) }
-    ensures faults { OnOk result ((value : IfValue) → HasValue (line_of tokens.now mark) value → done.new.faults ≡ done.old.faults ++ faults_by mark.part (tell (top_of (reverse sections.old))) (line_of tokens.now mark) value) }
-    ensures sections { OnOk result ((value : IfValue) → HasValue (line_of tokens.now mark) value → Passes mark.part (line_of tokens.now mark) value (reverse sections.old) (reverse sections.new)) }
+) -> Mem<Option<IfValue>>
+    requires { (mark.from ≤ mark.to) × (mark.to ≤ length tokens.now) }
+    ensures value { IfOk result (λ value. IsWorked (works mark.part (tell (top_of (reverse sections.old)))) (line_of tokens.now mark) value) }
+    ensures tokens { IfOk result (λ value. done.new.tokens ≡ done.old.tokens ++ tokens_by mark.part (tell (top_of (reverse sections.old)) Active) (line_of tokens.now mark)) }
+    ensures faults { IfOk result (λ value. done.new.faults ≡ done.old.faults ++ faults_by (get nat_cmp told.now) mark.part (tell (top_of (reverse sections.old))) (line_of tokens.now mark) value) }
+    ensures sections { IfOk result (λ value. reverse sections.new ≡ stacked mark.part (held_by mark.part (line_of tokens.now mark) value) (reverse sections.old)) }
 {
     let line = &tokens[mark.from as usize..mark.to as usize];
     let here = top(sections.as_slice());
-    let held = look(alloc, mark.part, line, here, done)?;
-    pass(sections, mark.part, held)?;
-    Ok(())
+    let value = value(alloc, mark.part, here, line)?;
+    line_faults(alloc, &mut done.faults, told, mark.part, here, line, value)?;
+    line_tokens(alloc, &mut done.tokens, mark.part, here, line)?;
+    pass(sections, mark.part, held(mark.part, line, value))?;
+    Ok(value)
 }
 
 /// The faults of comments without an end.
@@ -107,15 +121,4 @@ fn add_all(all: &mut List<Diag>, faults: &[Fault]) -> Mem<()>
         all.push(diag(fault))?;
     }
     Ok(())
-}
-
-/// A fault of the document.
-fn diag(fault: &Fault) -> Diag
-    ensures { result ≡ spread_fault fault.now }
-{
-    Diag {
-        number: fault.number,
-        at: span_at(fault.from, fault.to),
-        name: None,
-    }
 }

@@ -12,4 +12,4 @@ mod stray;
 mod token;
 
 pub use file::preprocess;
-pub use laws::one_preprocessing;
+pub use laws::{groups_change_nothing, one_branch, one_preprocessing, some_preprocessing};

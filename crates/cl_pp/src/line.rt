@@ -3,7 +3,7 @@
 ghost use Rattle.std.specs.Prelude.{◌≡◌, ◌++◌, OnOk};
 ghost use Rattle.cl_pp.specs.Lines.{alone_in, extra, fault_at, included, is_directive, is_unread, name_alone, name_first, named, plain_faults, rest_of};
 
-use crate::token::{is_hash, is_header, is_ident, is_word, span_at};
+use crate::token::{is_header, span_at};
 use cl_base::{Diag, List, Mem, Token};
 
 /// Whether a line is a directive: it begins with `#`.
@@ -11,7 +11,7 @@ pub(crate) fn is_directive(line: &[Token]) -> bool
     ensures { result ≡ is_directive line.now }
 {
     match line.split_first() {
-        Some((first, _)) => is_hash(first),
+        Some((first, _)) => first.is_hash(),
         None => false,
     }
 }
@@ -56,7 +56,7 @@ fn name_alone(faults: &mut List<Diag>, name: &Token, rest: &[Token]) -> Mem<()>
 {
     match rest.split_first() {
         Some((token, more)) => {
-            if is_ident(token) {
+            if token.kind.is_ident() {
                 extra(faults, more)
             } else {
                 add(faults, 6, name)
@@ -72,7 +72,7 @@ fn name_first(faults: &mut List<Diag>, name: &Token, rest: &[Token]) -> Mem<()>
 {
     match rest.split_first() {
         Some((token, _)) => {
-            if is_ident(token) {
+            if token.kind.is_ident() {
                 Ok(())
             } else {
                 add(faults, 6, name)
@@ -102,13 +102,13 @@ fn included(faults: &mut List<Diag>, rest: &[Token]) -> Mem<()>
 fn named(faults: &mut List<Diag>, name: &Token, rest: &[Token]) -> Mem<()>
     ensures { OnOk result (faults.new ≡ faults.old ++ named name.now rest.now) }
 {
-    if is_word(name, b"define".as_slice()) {
+    if name.is_word(b"define".as_slice()) {
         name_first(faults, name, rest)
-    } else if is_word(name, b"undef".as_slice()) {
+    } else if name.is_word(b"undef".as_slice()) {
         name_alone(faults, name, rest)
-    } else if is_word(name, b"include".as_slice()) {
+    } else if name.is_word(b"include".as_slice()) {
         included(faults, rest)
-    } else if is_word(name, b"line".as_slice()) || is_unread(name) {
+    } else if name.is_word(b"line".as_slice()) || is_unread(name) {
         Ok(())
     } else {
         add(faults, 5, name)
@@ -119,7 +119,7 @@ fn named(faults: &mut List<Diag>, name: &Token, rest: &[Token]) -> Mem<()>
 pub(crate) fn is_unread(name: &Token) -> bool
     ensures { result ≡ is_unread name.now }
 {
-    is_word(name, b"error".as_slice()) || is_word(name, b"pragma".as_slice())
+    name.is_word(b"error".as_slice()) || name.is_word(b"pragma".as_slice())
 }
 
 /// Adds the faults of a line that is no conditional directive.
@@ -131,7 +131,7 @@ pub(crate) fn plain_faults(faults: &mut List<Diag>, line: &[Token]) -> Mem<()>
     };
     match rest.split_first() {
         Some((name, rest)) => {
-            if is_hash(hash) {
+            if hash.is_hash() {
                 named(faults, name, rest)
             } else {
                 Ok(())

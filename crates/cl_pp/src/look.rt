@@ -1,51 +1,47 @@
 //! What a line gives.
 
-ghost use Rattle.std.specs.Prelude.{◌≡◌, ◌++◌, OnOk, IfOk, true};
-ghost use Rattle.cl_cond.specs.declared.eval.IfValue.{IfValue};
-ghost use Rattle.cl_cond.specs.Sections.{opens};
-ghost use Rattle.cl_pp.specs.Branches.{HasValue, IsHeld};
+ghost use Rattle.std.specs.Prelude.{◌≡◌, ◌++◌, OnOk};
+ghost use Rattle.std.specs.Ordering.{nat_cmp};
+ghost use Rattle.std.specs.BTreeMap.{get};
 ghost use Rattle.cl_pp.specs.Lines.{plain_tokens, spread_line};
 ghost use Rattle.cl_pp.specs.Preprocessing.{faults_by, tokens_by};
-ghost use Rattle.cl_pp.specs.Stacks.{tell};
+ghost use Rattle.cl_pp.specs.code.Stacks.{tell};
 
-use crate::branch::branch;
+use crate::branch::branch_faults;
 use crate::line::{extra, is_directive, plain_faults, rest_of};
 use crate::section::{Section, opens};
 use crate::stray::line_strays;
 use crate::token::spread;
-use cl_base::{List, Mem, PpDone, PpToken, Token};
-use cl_cond::Part;
+use cl_base::{Diag, Fault, List, Mem, PpToken, Token};
+use cl_cond::{IfValue, Part};
 use std::alloc::Global;
+use std::collections::BTreeMap;
 
-/// Adds the tokens and the faults of a line, where the sections around it answer so, and says whether its condition
-/// holds, if it begins a branch that may be taken.
-pub(crate) fn look(
+/// Adds the faults of a line in this section, whose condition came to this value. None is looked for in a group that is
+/// skipped.
+pub(crate) fn line_faults(
     alloc: Global,
+    faults: &mut List<Diag>,
+    told: &BTreeMap<u32, Fault>,
     part: Part,
-    line: &[Token],
     here: Section,
-    done: &mut PpDone,
-) -> Mem<bool>
-    requires { here.free ≡ true → here.outer ≡ true }
-    ensures tokens { OnOk result (done.new.tokens ≡ done.old.tokens ++ tokens_by part here.active line.now) }
-    ensures faults { OnOk result ((value : IfValue) → HasValue line.now value → done.new.faults ≡ done.old.faults ++ faults_by part (tell here) line.now value) }
-    ensures held { IfOk result (λ held. (value : IfValue) → HasValue line.now value → IsHeld part here line.now value held) }
+    line: &[Token],
+    value: Option<IfValue>,
+) -> Mem<()>
+    ensures { OnOk result (faults.new ≡ faults.old ++ faults_by (get nat_cmp told.now) part (tell here) line.now value) }
 {
     match part {
         Part::Line => {
             if here.active {
-                line_strays(&mut done.faults, line)?;
-                plain_faults(&mut done.faults, line)?;
-                text_line(alloc, &mut done.tokens, line)?;
+                line_strays(faults, told, line)?;
+                plain_faults(faults, line)?;
             }
-            Ok(false)
         }
         Part::End => {
             if here.outer {
-                line_strays(&mut done.faults, line)?;
-                extra(&mut done.faults, rest_of(line))?;
+                line_strays(faults, told, line)?;
+                extra(faults, rest_of(line))?;
             }
-            Ok(false)
         }
         Part::Branch(condition) => {
             let looked = if opens(condition) {
@@ -54,12 +50,33 @@ pub(crate) fn look(
                 here.outer
             };
             if looked {
-                line_strays(&mut done.faults, line)?;
-                branch(alloc, &mut done.faults, condition, here.free, line)
-            } else {
-                Ok(false)
+                line_strays(faults, told, line)?;
+                branch_faults(alloc, faults, condition, line, value)?;
             }
         }
+    }
+    Ok(())
+}
+
+/// Adds the tokens of a line in this section: those of an active text line.
+pub(crate) fn line_tokens(
+    alloc: Global,
+    tokens: &mut List<PpToken>,
+    part: Part,
+    here: Section,
+    line: &[Token],
+) -> Mem<()>
+    ensures { OnOk result (tokens.new ≡ tokens.old ++ tokens_by part here.active line.now) }
+{
+    match part {
+        Part::Line => {
+            if here.active {
+                text_line(alloc, tokens, line)
+            } else {
+                Ok(())
+            }
+        }
+        Part::End | Part::Branch(_) => Ok(()),
     }
 }
 

@@ -2,31 +2,23 @@
 
 ghost use Rattle.std.specs.Prelude.{◌≡◌, ◌++◌, ◌∷◌, [], ℕ, IfOk, OnOk, slice_index_or, reverse};
 ghost use Rattle.cl_cond.specs.Sections.{opens};
-ghost use Rattle.cl_pp.specs.Stacks.{all_active, stacked, tell, top_of, under};
+ghost use Rattle.cl_pp.specs.code.Stacks.{all_active, stacked, tell, top_of, under};
 
 use cl_base::{List, Mem};
 use cl_cond::{Condition, Part};
 
-/// What may be asked of a place among the lines of a file.
-#[derive(Clone, Copy)]
-pub enum Question {
-    /// Whether the lines there are active: the branch that is open there is taken, and so is each around it.
-    Active,
-    /// Whether the next branch of the section may be taken: none is so far, and the section is in active lines.
-    Free,
-    /// Whether the section is in active lines.
-    Outer,
-}
-
-/// The answers for the section that is open at a place.
+/// The section that is open at a place.
 #[derive(Clone, Copy)]
 pub struct Section {
+    /// The lines there are active: the branch that is open there is taken, and so is each around it.
     pub active: bool,
+    /// The next branch of the section may be taken: none is so far, and the section is in active lines.
     pub free: bool,
+    /// The section is in active lines.
     pub outer: bool,
 }
 
-/// The answers outside all sections.
+/// Outside all sections.
 pub(crate) const ALL_ACTIVE: Section = Section {
     active: true,
     free: true,
@@ -43,7 +35,7 @@ pub(crate) fn opens(condition: Condition) -> bool
     )
 }
 
-/// The answers of the innermost section that is open.
+/// The innermost section that is open.
 pub(crate) fn top(sections: &[Section]) -> Section
     ensures { result ≡ top_of (reverse sections.now) }
 {

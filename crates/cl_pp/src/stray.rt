@@ -1,20 +1,28 @@
-//! Tokens that fit nothing (N1570 6.4p3).
+//! What lexing tells of tokens that fit nothing (N1570 6.4p3).
 
-ghost use Rattle.std.specs.Prelude.{◌≡◌, ◌++◌, OnOk};
-ghost use Rattle.cl_pp.specs.Lines.{is_free_text, line_strays, stray_number, strays, stray};
+ghost use Rattle.std.specs.Prelude.{◌≡◌, ◌++◌, ℕ, OnOk, IfOk};
+ghost use Rattle.std.specs.Ordering.{nat_cmp};
+ghost use Rattle.std.specs.BTreeMap.{get};
+ghost use Rattle.cl_pp.specs.Lines.{is_free_text, line_strays, strays, stray, told};
 
-use crate::line::{add, is_unread};
-use crate::token::is_hash;
-use cl_base::{Diag, Kind, List, Mem, Token, char_len};
+use crate::line::is_unread;
+use crate::token::diag;
+use cl_base::{Diag, Fault, Kind, List, Mem, Token};
+use std::alloc::Global;
+use std::collections::BTreeMap;
 
-/// Adds the faults 2 to 4 of a line's tokens, unless they aren't looked at.
-pub(crate) fn line_strays(faults: &mut List<Diag>, line: &[Token]) -> Mem<()>
-    ensures { OnOk result (faults.new ≡ faults.old ++ line_strays line.now) }
+/// Adds the faults that lexing tells of a line's tokens, unless they aren't looked at.
+pub(crate) fn line_strays(
+    faults: &mut List<Diag>,
+    told: &BTreeMap<u32, Fault>,
+    line: &[Token],
+) -> Mem<()>
+    ensures { OnOk result (faults.new ≡ faults.old ++ line_strays (get nat_cmp told.now) line.now) }
 {
     if is_free_text(line) {
         Ok(())
     } else {
-        strays(faults, line)
+        strays(faults, told, line)
     }
 }
 
@@ -26,46 +34,41 @@ fn is_free_text(line: &[Token]) -> bool
         return false;
     };
     match rest.split_first() {
-        Some((name, _)) => is_hash(hash) && is_unread(name),
+        Some((name, _)) => hash.is_hash() && is_unread(name),
         None => false,
     }
 }
 
 /// Adds the faults of tokens.
-fn strays(faults: &mut List<Diag>, line: &[Token]) -> Mem<()>
-    ensures { OnOk result (faults.new ≡ faults.old ++ strays line.now) }
+fn strays(faults: &mut List<Diag>, told: &BTreeMap<u32, Fault>, line: &[Token]) -> Mem<()>
+    ensures { OnOk result (faults.new ≡ faults.old ++ strays (get nat_cmp told.now) line.now) }
 {
     for token in line {
-        stray(faults, token)?;
+        stray(faults, told, token)?;
     }
     Ok(())
 }
 
 /// Adds the fault of a token, if it has one.
-fn stray(faults: &mut List<Diag>, token: &Token) -> Mem<()>
-    ensures { OnOk result (faults.new ≡ faults.old ++ stray token.now.kind token.now) }
+fn stray(faults: &mut List<Diag>, told: &BTreeMap<u32, Fault>, token: &Token) -> Mem<()>
+    ensures { OnOk result (faults.new ≡ faults.old ++ stray (get nat_cmp told.now) token.now.kind token.now) }
 {
     match token.kind {
-        Kind::Other => match stray_number(token.text.bytes()) {
-            Some(number) => add(faults, number, token),
+        Kind::Other => match told.get(&token.from) {
+            Some(fault) => faults.push(diag(fault)),
             None => Ok(()),
         },
         _ => Ok(()),
     }
 }
 
-/// The number of the fault of an Other token that is spelled so, if it has one.
-fn stray_number(text: &[u8]) -> Option<u8>
-    ensures { result ≡ stray_number text.now }
+/// The faults of lexing, by the bytes at which they begin.
+pub(crate) fn told(alloc: Global, faults: &[Fault]) -> Mem<BTreeMap<u32, Fault>>
+    ensures { IfOk result (λ map. (at : ℕ) → get nat_cmp map at ≡ told faults.now at) }
 {
-    let (first, _) = text.split_first()?;
-    if *first == b'"' || *first == b'\'' {
-        Some(2)
-    } else if char_len(text, 0) == 0 {
-        Some(3)
-    } else if *first == 0 {
-        Some(4)
-    } else {
-        None
+    let mut map = BTreeMap::new(alloc);
+    for fault in faults {
+        map.insert(fault.from, *fault)?;
     }
+    Ok(map)
 }

@@ -11,8 +11,7 @@ use cl_base::{Answer, Path};
 pub struct Done {
     pub job: Job,
     pub answer: Answer,
-    pub ghost valid: { AnswerOf job.kind job.config job.headers job.path job.text answer }
-        by { AnswerOf-prop job.kind job.config job.headers job.path job.text answer },
+    pub ghost valid: { AnswerOf job.kind job.config job.headers job.path job.text answer } by { AnswerOf-prop job.kind job.config job.headers job.path job.text answer },
 }
 
 /// A job with the first header that it needs and of which nothing is known in its snapshot. There is none with a path
@@ -21,8 +20,7 @@ pub struct Done {
 pub struct Need {
     pub job: Job,
     pub path: Path,
-    pub ghost valid: { NeedsOf job.kind job.config job.headers job.path job.text path }
-        by { NeedsOf-prop job.kind job.config job.headers job.path job.text path },
+    pub ghost valid: { NeedsOf job.kind job.config job.headers job.path job.text path } by { NeedsOf-prop job.kind job.config job.headers job.path job.text path },
     pub ghost unknown: { IsUnknown job.headers path } by { IsUnknown-prop job.headers path },
 }
 

@@ -3,7 +3,8 @@
 ghost use Rattle.std.specs.Prelude.{◌≡◌, ◌<◌, ◌≤◌, ◌+◌, ◌^◌, length, IfOk};
 ghost use Rattle.cl_base.specs.Lines.{position_at};
 ghost use Rattle.cl_parse.specs.Tokens.{span_at};
-ghost use Rattle.cl_pp.specs.Places.{LieWithin};
+ghost use Rattle.cl_parse.specs.Items.{ItemsOf};
+ghost use Rattle.cl_pp.specs.Places.{InOrder};
 ghost use Rattle.cl_query.specs.Symbols.{symbol_at, symbols_in};
 
 use cl_base::{Cursor, List, Mem, PpToken, Range, Symbol, Text};
@@ -13,15 +14,15 @@ use std::alloc::Global;
 /// LSP's SymbolKind of a variable (LSP 3.17, SymbolKind).
 const VARIABLE: u8 = 13;
 
-/// The symbols of a text of these tokens and items, in order. The text is read once, where the tokens lie in the order
-/// of the list.
+/// The symbols of a text of these tokens and items, in order. The text is read once.
 pub(crate) fn symbols(
     alloc: Global,
     text: &[u8],
     tokens: &[PpToken],
     items: &[Item],
 ) -> Mem<List<Symbol>>
-    requires lie { LieWithin (length text.now) tokens.now }
+    requires order { InOrder 0 (length text.now) tokens.now }
+    requires items { ItemsOf tokens.now items.now }
     requires room { length text.now < 2 ^ 32 }
     ensures { IfOk result (λ symbols. symbols ≡ symbols_in text.now tokens.now items.now) }
 {
@@ -37,7 +38,8 @@ pub(crate) fn symbols(
     Ok(symbols)
 }
 
-/// The symbol of the declaration that begins with this token, and the place of its end.
+/// The symbol of the declaration that begins with this token, and the place of its end. The cursor doesn't lie behind
+/// that token.
 fn symbol(
     alloc: Global,
     text: &[u8],
@@ -45,20 +47,23 @@ fn symbol(
     cursor: Cursor,
     at: usize,
 ) -> Mem<(Symbol, Cursor)>
-    requires lie { LieWithin (length text.now) tokens.now }
+    requires order { InOrder 0 (length text.now) tokens.now }
     requires room { length text.now < 2 ^ 32 }
-    requires tokens { at < 2 ^ 32 }
+    requires small { at < 2 ^ 32 }
+    requires tokens { at + 2 < length tokens.now }
     requires stands { cursor.position ≡ position_at text.now cursor.offset }
+    requires before { cursor.offset ≤ (span_at tokens.now at).from }
     ensures symbol { IfOk result (λ pair. pair.0 ≡ symbol_at text.now tokens.now at) }
+    ensures offset { IfOk result (λ pair. pair.1.offset ≡ (span_at tokens.now (at + 2)).to) }
     ensures position { IfOk result (λ pair. pair.1.position ≡ position_at text.now pair.1.offset) }
 {
     let first = span_at(tokens, at);
     let name_span = span_at(tokens, at + 1);
     let last = span_at(tokens, at + 2);
-    let start = reached(text, cursor, first.from);
-    let name_start = reached(text, start, name_span.from);
-    let name_end = reached(text, name_start, name_span.to);
-    let end = reached(text, name_end, last.to);
+    let start = cursor.moved(text, first.from);
+    let name_start = start.moved(text, name_span.from);
+    let name_end = name_start.moved(text, name_span.to);
+    let end = name_end.moved(text, last.to);
     let name = Text::new(alloc, text_at(tokens, at + 1))?;
     let symbol = Symbol {
         kind: VARIABLE,
@@ -74,29 +79,4 @@ fn symbol(
         children: List::new(alloc),
     };
     Ok((symbol, end))
-}
-
-/// The place at an offset: from the cursor on, if it doesn't lie behind, and else from the text's start on.
-fn reached(text: &[u8], cursor: Cursor, to: u32) -> Cursor
-    requires stands { cursor.position ≡ position_at text.now cursor.offset }
-    requires within { to ≤ length text.now }
-    requires room { length text.now < 2 ^ 32 }
-    ensures offset { result.offset ≡ to }
-    ensures position { result.position ≡ position_at text.now to }
-{
-    if cursor.offset <= to {
-        cursor.moved(text, to)
-    } else {
-        from_start(text, to)
-    }
-}
-
-/// The place at an offset, from the text's start on.
-fn from_start(text: &[u8], to: u32) -> Cursor
-    requires within { to ≤ length text.now }
-    requires room { length text.now < 2 ^ 32 }
-    ensures offset { result.offset ≡ to }
-    ensures position { result.position ≡ position_at text.now to }
-{
-    Cursor::start().moved(text, to)
 }

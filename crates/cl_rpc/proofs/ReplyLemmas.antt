@@ -1,68 +1,125 @@
--- The equation of a symbol's data, and that no reply holds a float.
-use Rattle.std.proofs.Common.{◌≡◌, ℕ, ℤ, pos, negsuc, map, List, [], ◌∷◌, false, refl, ap, subst, ◌∙◌, Option, Some, None}
-use Rattle.serde_json.specs.Data.{Data}
+-- The texts of a reply's parts, piece by piece.
+use Rattle.std.proofs.Common.{◌≡◌, ◌≢◌, ◌+◌, ◌<◌, ◌≤◌, suc, Bool, length, drop, get_or, subst, add-one, drop-cons, ℕ, ℤ, pos, negsuc, map, List, [], ◌∷◌, ◌++◌, false, true, refl, sym, ap, ◌∙◌, codes, decimal, append_assoc}
+use Rattle.std.proofs.lemmas.List.{drop_all}
+use Rattle.std.specs.Fmt.{signed_decimal}
+use Rattle.serde_json.specs.Data.{Data, string, array}
 use Rattle.serde_json.specs.View.{items_of}
-use Rattle.serde_json.specs.Find.{of_integer, is_float}
-use Rattle.serde_json.specs.Written.{compact_text, has_float, items_have_float}
+use Rattle.serde_json.specs.Find.{of_integer}
+use Rattle.serde_json.specs.Written.{compact_text, number_text, members_text, items_text, comma_if}
+use Rattle.serde_json.proofs.OnLiterals.{serde_json_on_literals}
 use Rattle.cl_base.specs.declared.answer.Symbol.{Symbol}
 use Rattle.cl_base.specs.declared.answer.Symbol.TheViews.{out-Symbol}
-use Rattle.cl_base.specs.declared.answer.Symbol.TheFolds.{fold_out-Symbol, fold-roll-Symbol, ind-Symbol}
-use Rattle.cl_base.specs.declared.answer.Answer.{Answer}
-use Rattle.cl_base.specs.declared.answer.Answer.TheVariants as answer
+use Rattle.cl_base.specs.declared.answer.Symbol.TheFolds.{fold_out-Symbol}
+use Rattle.cl_base.specs.declared.place.Position.{Position}
 use Rattle.cl_base.specs.declared.place.Range.{Range}
-use Rattle.cl_rpc.specs.declared.out.Out.{Out}
-use Rattle.cl_rpc.specs.declared.out.Out.TheVariants as out
 use Rattle.cl_rpc.specs.declared.out.Reply.{Reply}
-use Rattle.cl_rpc.specs.declared.id.Id.{Id}
-use Rattle.cl_rpc.specs.declared.id.Id.TheVariants as id
-use Rattle.cl_rpc.specs.Replies.{text_data, range_data, id_data, symbol_data, symbol_object_data, symbol_step, answer_data, body_data, reply_data, framed, reply_frame}
+use Rattle.cl_rpc.specs.Replies.{Adds, text_data, position_data, range_data, own_members, symbol_object_data, symbol_step, symbol_data, symbols_data, capabilities_data, result_data, error_message, error_data, reply_data, framed, reply_frame}
 
-pub symbol_data_out : (s : Symbol) → symbol_data s ≡ symbol_object_data (out-Symbol s).kind (text_data (out-Symbol s).name) (range_data (out-Symbol s).range) (range_data (out-Symbol s).selection) (map symbol_data (out-Symbol s).children)
+pub position_text : (p : Position) → compact_text (position_data p) ≡ codes "{\"character\":" ++ (decimal p.character ++ (codes ",\"line\":" ++ (decimal p.line ++ codes "}")))
+unfolding serde_json_on_literals
+position_text p = refl
+
+pub range_text : (r : Range) → compact_text (range_data r) ≡ codes "{\"end\":" ++ (compact_text (position_data r.end) ++ (codes ",\"start\":" ++ (compact_text (position_data r.start) ++ codes "}")))
+unfolding serde_json_on_literals
+range_text r = refl
+
+pub own_text : (kind : ℕ) (name range selection : Data) → members_text false (own_members kind name range selection)
+    ≡ codes "\"kind\":" ++ (decimal kind ++ (codes ",\"name\":" ++ (compact_text name ++ (codes ",\"range\":" ++ (compact_text range ++ (codes ",\"selectionRange\":" ++ (compact_text selection ++ codes "}")))))))
+unfolding serde_json_on_literals
+own_text kind name range selection = refl
+
+-- a symbol without children, and one with some
+leaf_text : (kind : ℕ) (name range selection : Data) → compact_text (symbol_object_data kind name range selection [])
+    ≡ codes "{" ++ members_text false (own_members kind name range selection)
+leaf_text kind name range selection = refl
+
+parent_text : (kind : ℕ) (name range selection d : Data) (ds : List Data) → compact_text (symbol_object_data kind name range selection (d ∷ ds))
+    ≡ codes "{" ++ (codes "\"children\":" ++ (compact_text (array (items_of (d ∷ ds))) ++ (codes "," ++ members_text false (own_members kind name range selection))))
+unfolding serde_json_on_literals
+parent_text kind name range selection d ds = refl
+
+pub result_text : (i d : Data) → compact_text (result_data i d)
+    ≡ (codes "{\"id\":" ++ (compact_text i ++ codes ",\"jsonrpc\":\"2.0\",\"result\":")) ++ (compact_text d ++ codes "}")
+unfolding serde_json_on_literals
+result_text i d =
+    ap (λ w. codes "{\"id\":" ++ w) (sym (append_assoc (compact_text i) (codes ",\"jsonrpc\":\"2.0\",\"result\":") (compact_text d ++ codes "}")))
+
+pub capabilities_text : compact_text capabilities_data
+    ≡ codes "{\"capabilities\":{\"documentSymbolProvider\":true,\"textDocumentSync\":" ++ (decimal 1 ++ codes "},\"serverInfo\":{\"name\":\"clsd\"}}")
+unfolding serde_json_on_literals
+capabilities_text =
+    ap (λ w. codes "{\"capabilities\":{\"documentSymbolProvider\":true,\"textDocumentSync\":" ++ w) (append_assoc (decimal 1) (codes "}") (codes ",\"serverInfo\":{\"name\":\"clsd\"}}"))
+
+pub integer_text : (n : ℤ) → number_text (of_integer n) ≡ signed_decimal n
+integer_text (pos n) = refl
+integer_text (negsuc n) = refl
+
+pub error_text : (i : Data) (code : ℤ) → compact_text (error_data i code)
+    ≡ codes "{\"error\":{\"code\":" ++ (number_text (of_integer code) ++ (codes ",\"message\":" ++ (compact_text (string (error_message code)) ++ (codes "},\"id\":" ++ (compact_text i ++ codes ",\"jsonrpc\":\"2.0\"}")))))
+unfolding serde_json_on_literals
+error_text i code =
+    let number = number_text (of_integer code) in
+    let message = compact_text (string (error_message code)) in
+    let rest = codes ",\"id\":" ++ (compact_text i ++ codes ",\"jsonrpc\":\"2.0\"}") in
+    ap (λ w. codes "{\"error\":{\"code\":" ++ w)
+    (append_assoc number (codes ",\"message\":" ++ (message ++ codes "}")) rest
+    ∙ ap (λ w. number ++ (codes ",\"message\":" ++ w)) (append_assoc message (codes "}") rest))
+
+-- the equation of a symbol's data
+symbol_data_out : (s : Symbol) → symbol_data s ≡ symbol_object_data (out-Symbol s).kind (text_data (out-Symbol s).name) (range_data (out-Symbol s).range) (range_data (out-Symbol s).selection) (map symbol_data (out-Symbol s).children)
 symbol_data_out = fold_out-Symbol Data symbol_step
 
-pub integer_no_float : (n : ℤ) → is_float (of_integer n) ≡ false
-integer_no_float (pos n) = refl
-integer_no_float (negsuc n) = refl
+some_children : (kind : ℕ) (name range selection : Data) (cs : List Symbol) → cs ≢ [] → compact_text (symbol_object_data kind name range selection (map symbol_data cs))
+    ≡ codes "{" ++ (codes "\"children\":" ++ (compact_text (symbols_data cs) ++ (codes "," ++ members_text false (own_members kind name range selection))))
+some_children kind name range selection [] some = absurd (some refl)
+some_children kind name range selection (c ∷ cs) some = parent_text kind name range selection (symbol_data c) (map symbol_data cs)
 
-pub id_no_float : (i : Option Id) → has_float (id_data i) ≡ false
-id_no_float None = refl
-id_no_float (Some (id.Number n)) = integer_no_float n
-id_no_float (Some (id.Text s)) = refl
+-- a symbol with children
+pub with_children : (s : Symbol) → (out-Symbol s).children ≢ [] → compact_text (symbol_data s)
+    ≡ codes "{" ++ (codes "\"children\":" ++ (compact_text (symbols_data (out-Symbol s).children) ++ (codes "," ++ members_text false (own_members (out-Symbol s).kind (text_data (out-Symbol s).name) (range_data (out-Symbol s).range) (range_data (out-Symbol s).selection)))))
+with_children s some = ap compact_text (symbol_data_out s) ∙ some_children (out-Symbol s).kind (text_data (out-Symbol s).name) (range_data (out-Symbol s).range) (range_data (out-Symbol s).selection) (out-Symbol s).children some
 
-abbrev HasNone : Symbol → Type 0
-HasNone s = has_float (symbol_data s) ≡ false
+-- a symbol without
+pub without_children : (s : Symbol) → (out-Symbol s).children ≡ [] → compact_text (symbol_data s)
+    ≡ codes "{" ++ members_text false (own_members (out-Symbol s).kind (text_data (out-Symbol s).name) (range_data (out-Symbol s).range) (range_data (out-Symbol s).selection))
+without_children s none =
+    let layer = out-Symbol s in
+    ap compact_text (symbol_data_out s) ∙ ap (λ (cs : List Symbol). compact_text (symbol_object_data layer.kind (text_data layer.name) (range_data layer.range) (range_data layer.selection) (map symbol_data cs))) none
+    ∙ leaf_text layer.kind (text_data layer.name) (range_data layer.range) (range_data layer.selection)
 
-object_no_float : (kind : ℕ) (name : List ℕ) (range selection : Range) (ds : List Data) → items_have_float (items_of ds) ≡ false
-    → has_float (symbol_object_data kind (text_data name) (range_data range) (range_data selection) ds) ≡ false
-object_no_float kind name range selection [] h = refl
-object_no_float kind name range selection (d ∷ ds) h = rw h refl
+-- ---- pieces one after another
 
-children_no_float : (es : List ((s : Symbol) × HasNone s)) → items_have_float (items_of (map symbol_data (map (λ e. e.0) es))) ≡ false
-children_no_float [] = refl
-children_no_float (e ∷ es) = rw e.1 (children_no_float es)
+pub on : {o a b p q : List ℕ} → Adds o a p → Adds a b q → Adds o b (p ++ q)
+on {o = o} {p = p} {q = q} h k = record { is = k.is ∙ ap (λ (w : List ℕ). w ++ q) h.is ∙ append_assoc o p q }
 
--- y is x with a proof beside each child
-symbol_no_float : (s : Symbol) → HasNone s
-symbol_no_float = ind-Symbol HasNone (λ x y is.
-    let inner : items_have_float (items_of (map symbol_data x.children)) ≡ false = subst (λ z. items_have_float (items_of (map symbol_data z.children)) ≡ false) is (children_no_float y.children) in
-    ap has_float (fold-roll-Symbol Data symbol_step x) ∙ object_no_float x.kind x.name x.range x.selection (map symbol_data x.children) inner)
+pub as_text : {o a p : List ℕ} (w : List ℕ) → w ≡ p → Adds o a p → Adds o a w
+as_text {o = o} w e h = record { is = h.is ∙ ap (λ (v : List ℕ). o ++ v) (sym e) }
 
-symbols_no_float : (ss : List Symbol) → items_have_float (items_of (map symbol_data ss)) ≡ false
-symbols_no_float [] = refl
-symbols_no_float (s ∷ ss) = rw (symbol_no_float s) (symbols_no_float ss)
+-- ---- a list of symbols: what was printed, and what is left, is all
 
-answer_no_float : (a : Answer) → has_float (answer_data a) ≡ false
-answer_no_float (answer.Symbols ss) = symbols_no_float ss
+abbrev pub left_text : Bool → ℕ → List Symbol → List ℕ
+left_text later i ss = items_text later (items_of (map symbol_data (drop i ss)))
 
-body_no_float : (i : Data) (o : Out) → has_float i ≡ false → has_float (body_data i o) ≡ false
-body_no_float i out.Capabilities h = rw h refl
-body_no_float i out.Null h = rw h refl
-body_no_float i (out.Answer a) h = rw (h, answer_no_float a) refl
-body_no_float i (out.Error code) h = rw (h, integer_no_float code) refl
+pub one_more : (o a b all : List ℕ) (later : Bool) (ss : List Symbol) (i : ℕ) (s : Symbol) → i < length ss → s ≡ get_or ss i s
+    → Adds o a (comma_if later) → Adds a b (compact_text (symbol_data s)) → o ++ left_text later i ss ≡ all → b ++ left_text true (i + 1) ss ≡ all
+one_more o a b all later ss i s h e p q w =
+    let next : List ℕ = compact_text (symbol_data s) in
+    let rest : List ℕ = left_text true (i + 1) ss in
+    let cut : drop i ss ≡ s ∷ drop (i + 1) ss = rw add-one (drop-cons ss i s h ∙ ap (λ (x : Symbol). x ∷ drop (suc i) ss) (sym e)) in
+    let whole : o ++ (comma_if later ++ (next ++ rest)) ≡ all = subst (λ (v : List Symbol). o ++ items_text later (items_of (map symbol_data v)) ≡ all) cut w in
+    let both : Adds o b (comma_if later ++ next) = on p q in
+    ap (λ (v : List ℕ). v ++ rest) both.is ∙ append_assoc o (comma_if later ++ next) rest ∙ ap (λ (v : List ℕ). o ++ v) (append_assoc (comma_if later) next rest) ∙ whole
 
-pub reply_no_float : (r : Reply) → has_float (reply_data r) ≡ false
-reply_no_float r = body_no_float (id_data r.id) r.out (id_no_float r.id)
+pub list_text : (o p q b : List ℕ) (later : Bool) (ss : List Symbol) (i : ℕ) → length ss ≤ i
+    → Adds o p (codes "[") → q ++ left_text later i ss ≡ p ++ left_text false 0 ss → Adds q b (codes "]") → Adds o b (compact_text (symbols_data ss))
+list_text o p q b later ss i h first w last =
+    let none : drop i ss ≡ [] = drop_all i ss h in
+    record {
+      is = last.is ∙ subst (λ (v : List Symbol). q ++ items_text later (items_of (map symbol_data v)) ≡ p ++ left_text false 0 ss) none w
+          ∙ ap (λ (v : List ℕ). v ++ left_text false 0 ss) first.is ∙ append_assoc o (codes "[") (left_text false 0 ss);
+    }
 
-pub frame_is : (r : Reply) (d : Data) (body frame text : List ℕ) → d ≡ reply_data r → body ≡ compact_text d → frame ≡ framed body → text ≡ frame → text ≡ reply_frame r
+pub frame_is : (r : Reply) (start body frame text : List ℕ) → start ≡ [] → Adds start body (compact_text (reply_data r)) → frame ≡ framed body → text ≡ frame → text ≡ reply_frame r
 unfolding reply_frame
-frame_is r d body frame text p q e t = t ∙ e ∙ ap framed (q ∙ ap compact_text p)
+frame_is r start body frame text none h e t =
+    t ∙ e ∙ ap framed (h.is ∙ ap (λ (w : List ℕ). w ++ compact_text (reply_data r)) none)

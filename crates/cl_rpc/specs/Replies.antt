@@ -1,5 +1,5 @@
 -- What is written for a reply (JSON-RPC 2.0, section 5; LSP 3.17, base protocol and DocumentSymbol).
-use Rattle.std.specs.Prelude.{ℕ, ℤ, negsuc, ◌++◌, List, [], ◌∷◌, length, map, true, if◌then◌else◌, Option, Some, None, codes, decimal}
+use Rattle.std.specs.Prelude.{◌≡◌, ℕ, ℤ, negsuc, ◌++◌, List, [], ◌∷◌, length, map, true, if◌then◌else◌, Option, Some, None, codes, decimal}
 use Rattle.std.specs.Ordering.{int_eq}
 use Rattle.serde_json.specs.Data.{Data, null, boolean, number, unsigned, string, array, object, Members, no_members, member}
 use Rattle.serde_json.specs.View.{items_of}
@@ -108,3 +108,9 @@ framed body = codes "Content-Length: " ++ (decimal (length body) ++ (codes "\r\n
 
 unfoldable pub reply_frame : Reply → List ℕ
 reply_frame r = framed (compact_text (reply_data r))
+
+-- ---- pieces
+
+-- the text so far, followed by this piece
+pub record Adds (old new piece : List ℕ) : Type 0 where
+  pub is : new ≡ old ++ piece

@@ -14,8 +14,9 @@ mod message_params;
 mod message_watched;
 mod out;
 mod reply;
+mod reply_body;
+mod reply_pieces;
 mod reply_symbols;
-mod reply_value;
 
 pub use call::{Call, Parsed};
 pub use class::Class;

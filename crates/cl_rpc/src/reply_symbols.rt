@@ -1,107 +1,90 @@
-ghost use Rattle.std.specs.Prelude.{◌≡◌, IfOk, map};
-ghost use Rattle.serde_json.specs.View.{view, members_view};
-ghost use Rattle.cl_rpc.specs.Replies.{text_data, position_data, range_data, symbol_data, symbol_object_data, own_members, symbols_data, answer_data};
+ghost use Rattle.std.specs.Prelude.{false, OnOk, string_bytes};
+ghost use Rattle.serde_json.specs.Written.{compact_text, members_text, comma_if};
+ghost use Rattle.cl_base.specs.declared.answer.Symbol.TheViews.{out-Symbol};
+ghost use Rattle.cl_rpc.specs.Replies.{Adds, text_data, position_data, range_data, own_members, symbol_data, symbols_data};
 
-use crate::json::with;
-use crate::lossy::shown;
-use cl_base::{Answer, List, Mem, Position, Range, Symbol, Text};
-use serde_json::{Map, Value, json};
+use crate::reply_pieces::{push, push_count, push_text};
+use cl_base::{List, Mem, Position, Range, Symbol};
 use std::alloc::Global;
 
-/// A text as JSON.
-pub fn text_value(alloc: Global, text: &Text) -> Mem<Value>
-    ensures { IfOk result (λ v. view v ≡ text_data text.now) }
+/// Adds a list of symbols, one after another.
+#[cycle(symbols)]
+pub fn push_symbols(alloc: Global, out: &mut String, symbols: &List<Symbol>) -> Mem<()>
+    ensures { OnOk result (Adds (string_bytes out.old) (string_bytes out.new) (compact_text (symbols_data symbols.now))) }
 {
-    let text = shown(alloc, text.bytes())?;
-    Ok(Value::String(text))
-}
-
-/// An answer as JSON.
-pub fn answer_value(alloc: Global, answer: &Answer) -> Mem<Value>
-    ensures { IfOk result (λ v. view v ≡ answer_data answer.now) }
-{
-    match answer {
-        Answer::Symbols(symbols) => {
-            let value = symbols_value(alloc, symbols)?;
-            Ok(value)
-        }
-    }
-}
-
-fn symbols_value(alloc: Global, symbols: &List<Symbol>) -> Mem<Value>
-    ensures { IfOk result (λ v. view v ≡ symbols_data symbols.now) }
-{
-    let mut items = Vec::new(alloc);
+    push(out, "[")?;
+    let mut later = false;
     for symbol in symbols.as_slice() {
-        let item = symbol_value(alloc, symbol)?;
-        items.push(item)?;
+        push_comma(out, later)?;
+        push_symbol(alloc, out, symbol)?;
+        later = true;
     }
-    Ok(Value::Array(items))
+    push(out, "]")?;
+    Ok(())
 }
 
-fn symbol_value(alloc: Global, symbol: &Symbol) -> Mem<Value>
-    ensures { IfOk result (λ v. view v ≡ symbol_data symbol.now) }
+/// Adds a symbol. Its children, if it has some, stand first, and each may have its own.
+#[cycle(symbols)]
+fn push_symbol(alloc: Global, out: &mut String, symbol: &Symbol) -> Mem<()>
+    ensures { OnOk result (Adds (string_bytes out.old) (string_bytes out.new) (compact_text (symbol_data symbol.now))) }
 {
-    let mut children = Vec::new(alloc);
-    for child in symbol.children.as_slice() {
-        let child = symbol_value(alloc, child)?;
-        children.push(child)?;
+    push(out, "{")?;
+    if symbol.children.is_empty() {
+        push_own(alloc, out, symbol)?;
+        return Ok(());
     }
-    let name = text_value(alloc, &symbol.name)?;
-    let range = range_value(alloc, symbol.range)?;
-    let selection = range_value(alloc, symbol.selection)?;
-    let value = symbol_object(alloc, symbol.kind, name, range, selection, children)?;
-    Ok(value)
+    push(out, "\"children\":")?;
+    push_symbols(alloc, out, &symbol.children)?;
+    push(out, ",")?;
+    push_own(alloc, out, symbol)?;
+    Ok(())
 }
 
-/// A symbol of these parts.
-fn symbol_object(
-    alloc: Global,
-    kind: u8,
-    name: Value,
-    range: Value,
-    selection: Value,
-    children: Vec<Value>,
-) -> Mem<Value>
-    ensures { IfOk result (λ v. view v ≡ symbol_object_data kind (view name) (view range) (view selection) (map view children.items)) }
+/// Adds a comma, where something stands before.
+fn push_comma(out: &mut String, later: bool) -> Mem<()>
+    ensures { OnOk result (Adds (string_bytes out.old) (string_bytes out.new) (comma_if later)) }
 {
-    let members = own_members(alloc, kind, name, range, selection)?;
-    if children.is_empty() {
-        return Ok(Value::Object(members));
+    if later {
+        return push(out, ",");
     }
-    let members = with(alloc, members, "children", Value::Array(children))?;
-    Ok(Value::Object(members))
+    Ok(())
 }
 
-/// The members that each symbol has.
-fn own_members(
-    alloc: Global,
-    kind: u8,
-    name: Value,
-    range: Value,
-    selection: Value,
-) -> Mem<Map<String, Value>>
-    ensures { IfOk result (λ map. members_view map.entries ≡ own_members kind (view name) (view range) (view selection)) }
+/// Adds the members that each symbol has, and the symbol's end.
+fn push_own(alloc: Global, out: &mut String, symbol: &Symbol) -> Mem<()>
+    ensures { let s = out-Symbol symbol.now in
+        OnOk result (Adds (string_bytes out.old) (string_bytes out.new) (members_text false (own_members s.kind (text_data s.name) (range_data s.range) (range_data s.selection)))) }
 {
-    let members = Map::new(alloc);
-    let members = with(alloc, members, "kind", Value::from(kind))?;
-    let members = with(alloc, members, "name", name)?;
-    let members = with(alloc, members, "range", range)?;
-    with(alloc, members, "selectionRange", selection)
+    push(out, "\"kind\":")?;
+    push_count(out, symbol.kind as u32)?;
+    push(out, ",\"name\":")?;
+    push_text(alloc, out, &symbol.name)?;
+    push(out, ",\"range\":")?;
+    push_range(out, symbol.range)?;
+    push(out, ",\"selectionRange\":")?;
+    push_range(out, symbol.selection)?;
+    push(out, "}")?;
+    Ok(())
 }
 
-fn range_value(alloc: Global, range: Range) -> Mem<Value>
-    ensures { IfOk result (λ v. view v ≡ range_data range) }
+fn push_range(out: &mut String, range: Range) -> Mem<()>
+    ensures { OnOk result (Adds (string_bytes out.old) (string_bytes out.new) (compact_text (range_data range))) }
 {
-    let start = position_value(alloc, range.start)?;
-    let end = position_value(alloc, range.end)?;
-    let value = json!(in alloc; {"end": end, "start": start})?;
-    Ok(value)
+    push(out, "{\"end\":")?;
+    push_position(out, range.end)?;
+    push(out, ",\"start\":")?;
+    push_position(out, range.start)?;
+    push(out, "}")?;
+    Ok(())
 }
 
-fn position_value(alloc: Global, position: Position) -> Mem<Value>
-    ensures { IfOk result (λ v. view v ≡ position_data position) }
+fn push_position(out: &mut String, position: Position) -> Mem<()>
+    ensures { OnOk result (Adds (string_bytes out.old) (string_bytes out.new) (compact_text (position_data position))) }
 {
-    let value = json!(in alloc; {"character": position.character, "line": position.line})?;
-    Ok(value)
+    push(out, "{\"character\":")?;
+    push_count(out, position.character)?;
+    push(out, ",\"line\":")?;
+    push_count(out, position.line)?;
+    push(out, "}")?;
+    Ok(())
 }

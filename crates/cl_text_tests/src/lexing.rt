@@ -8,7 +8,7 @@ type Row<'a> = (&'a [u8], &'a [u8]);
 
 #[test]
 fn worked_examples(rt: HostRuntime) -> Result<(), Fail> {
-    let rows: [Row<'_>; 29] = [
+    let rows: [Row<'_>; 36] = [
         (b"a??/\nb", b"Iab@0-6f "),
         (b"x+++y", b"Ix@0-1f P++@1-3 P+@3-4 Iy@4-5 "),
         (b"0x1e+5", b"N0x1e+5@0-6f "),
@@ -36,6 +36,16 @@ fn worked_examples(rt: HostRuntime) -> Result<(), Fail> {
             b"%:include \"a\\\"",
             b"P%:@0-2f Iinclude@2-9 H\"a\\\"@10-14s ",
         ),
+        (
+            b"#include \"a\\\"\"",
+            b"P#@0-1f Iinclude@1-8 S\"a\\\"\"@9-14s ",
+        ),
+        (b"#include \"a\"", b"P#@0-1f Iinclude@1-8 H\"a\"@9-12s "),
+        (b"\\u00e9x", b"O\\u00e9@0-6f Ix@6-7 "),
+        (b"a\\U0001F600;", b"Ia@0-1f O\\U0001F600@1-11 P;@11-12 "),
+        (b"??/u00E9", b"O\\u00E9@0-8f "),
+        (b"\\u00e", b"O\\@0-1f Iu00e@1-5 "),
+        (b"\\U0001F60", b"O\\@0-1f IU0001F60@1-9 "),
         (
             b"#include\n<a>",
             b"P#@0-1f Iinclude@1-8 P<@9-10sf Ia@10-11 P>@11-12 ",

@@ -7,7 +7,13 @@ mod conditions;
 #[cfg(test)]
 mod copies;
 #[cfg(test)]
+mod header_sources;
+#[cfg(test)]
+mod large;
+#[cfg(test)]
 mod lexing;
+#[cfg(test)]
+mod one_tokens;
 #[cfg(test)]
 mod places;
 #[cfg(test)]

@@ -86,11 +86,11 @@ fn deep_sections_and_parentheses(rt: HostRuntime) -> Result<(), Fail> {
     assert!(rt; done.faults.len() == 100_000, "no section is ended");
     let mut text = Vec::new(alloc);
     text.extend_from_slice(b"#if ")?;
-    for _ in 0..1_000_000 {
+    for _ in 0..2_500_000 {
         text.push(b'(')?;
     }
     text.push(b'1')?;
-    for _ in 0..1_000_000 {
+    for _ in 0..2_500_000 {
         text.push(b')')?;
     }
     text.extend_from_slice(b"\na\n#endif\n")?;

@@ -24,7 +24,7 @@ use Rattle.clsd.proofs.InTime.{all_in_time}
 use Rattle.clsd.specs.Serving.{ended_with, EndsInput, Holds, IsCutOff, IsOver, Keeps, LeavesIdle, Turns}
 use Rattle.clsd.specs.declared.turn.Turn.{Turn}
 use Rattle.clsd.specs.declared.turn.Turn.TheVariants.{Ends, SinkFailed, GoesOn}
-use Rattle.clsd.specs.Sessions.{Close, at_exit, at_edge, at_bad, at_long, at_source, at_sink, at_memory, NoneLast, Session, StatusIs, LeavesUnread, is_last, is_whole, messages_in}
+use Rattle.clsd.specs.Sessions.{Close, at_exit, at_edge, at_bad, at_long, at_source, at_sink, at_memory, NoneLast, SerialSession, StatusIs, LeavesUnread, is_last, is_whole, messages_in}
 
 -- what holds before each frame: the bytes that were taken are the frames of the bodies that were given, and the core
 -- and the sink stand for these, whatever comes
@@ -76,27 +76,29 @@ pub sealed : (bytes taken rest : List ℕ) (left held : Option (List ℕ)) (bodi
     → held ≡ Some now → Writes (messages_in bodies) (past_of core) (now ++ unwritten) → (IsTrue (is_whole close) → unwritten ≡ [])
     → IsSettled (messages_in bodies) (past_of core) → (IsTrue (is_whole close) → jobs_out core ≡ [])
     → StatusIs close (is_shut_down (messages_in bodies) (past_of core)) ends code offset → LeavesUnread close bytes taken rest bodies offset
-    → Session bytes left held (journal_of core) code offset
+    → SerialSession bytes left held (journal_of core) code offset
 sealed bytes taken rest left held bodies ends close core now unwritten code offset parts left_is framed stands few all held_is writes filled settled none status unread = record {
-  taken = taken;
-  rest = rest;
-  parts = parts;
-  left_is = left_is;
-  bodies = bodies;
-  ends = ends;
-  close = close;
-  messages = record {
-    framed = framed;
-    first = subst (λ (n : ℕ). n ≤ length bodies) stands.count few;
-    all = λ e. sym stands.count ∙ all e;
+  session = record {
+    taken = taken;
+    rest = rest;
+    parts = parts;
+    left_is = left_is;
+    bodies = bodies;
+    ends = ends;
+    close = close;
+    messages = record {
+      framed = framed;
+      first = subst (λ (n : ℕ). n ≤ length bodies) stands.count few;
+      all = λ e. sym stands.count ∙ all e;
+    };
+    legal = record { follow = stands.follow; none_due = stands.none_due };
+    written = record { now = now; unwritten = unwritten; held_is = held_is; writes = writes; all = filled };
+    status = status;
+    whole = λ e. none_pending (messages_in bodies) core stands (none e);
+    unread = unread;
   };
-  legal = record { follow = stands.follow; none_due = stands.none_due };
-  written = record { now = now; unwritten = unwritten; held_is = held_is; writes = writes; all = filled };
-  status = status;
-  whole = λ e. none_pending (messages_in bodies) core stands (none e);
   settled = settled;
   in_time = all_in_time (messages_in bodies) (past_of core) stands.follow settled;
-  unread = unread;
 }
 
 -- it ended where the input did, or for want of memory
@@ -105,7 +107,7 @@ pub ended_input : (bytes taken rest : List ℕ) (left held : Option (List ℕ)) 
     → held ≡ Some now → old.messages ≤ length bodies → (IsTrue (is_whole close) → old.messages ≡ length bodies)
     → ((b : Bool) → StatusIs close b ends (status_of how) offset) → LeavesUnread close bytes taken rest bodies offset
     → EndsInput (messages_in bodies) old how new now res
-    → Session bytes left held (journal_of new) (ended_with res offset).status (ended_with res offset).at
+    → SerialSession bytes left held (journal_of new) (ended_with res offset).status (ended_with res offset).at
 ended_input bytes taken rest left held bodies ends close old new how now offset (Ok status) parts left_is framed held_is few all stat unread over =
     sealed bytes taken rest left held bodies ends close new now [] status offset parts left_is framed over.1.stands
     (subst (λ (n : ℕ). n ≤ length bodies) (sym over.2) few) (λ e. over.2 ∙ all e) held_is (rw (append-nil now) over.1.writes) (λ e. refl) over.1.settled (λ e. over.1.none_out)
@@ -163,7 +165,7 @@ module _ (bytes : List ℕ) (at now : ℕ) (left0 held0 left : Option (List ℕ)
   pub at_the_exit : (new : Core) (held : Option (List ℕ)) (status : ℕ)
       → Holds held (IsOver (messages_in more_given) new) → new.messages ≡ old.messages + 1 → is_exit (message_in text) ≡ true
       → status ≡ (if is_shut_down (messages_in more_given) (past_of new) then 0 else 1)
-      → Session bytes left held (journal_of new) status 0
+      → SerialSession bytes left held (journal_of new) status 0
   at_the_exit new held status over count exits is =
       let both = front_last is_last g.front g.behind text g.given read.count g.is_front length_room begins exits in
       sealed bytes more_taken (drop read.count g.behind) left held more_given (after_last []) at_exit new over.0 [] status 0 next_parts read.left_is both.1 over.2.stands
@@ -174,7 +176,7 @@ module _ (bytes : List ℕ) (at now : ℕ) (left0 held0 left : Option (List ℕ)
   pub at_a_cut : (new : Core) (held : Option (List ℕ)) (close : Close) (status : ℕ) → is_whole close ≡ false
       → Holds held (IsCutOff (messages_in more_given) new) → new.messages ≤ old.messages + 1
       → ((b : Bool) (e : frames.Ending) → StatusIs close b e status 0) → LeavesUnread close bytes more_taken (drop read.count g.behind) more_given 0
-      → Session bytes left held (journal_of new) status 0
+      → SerialSession bytes left held (journal_of new) status 0
   at_a_cut new held close status short off few stat unread =
       sealed bytes more_taken (drop read.count g.behind) left held more_given next_framed.0 close new off.0 off.2.unwritten status 0 next_parts read.left_is next_framed.1 off.2.stands
       (let same : old.messages + 1 ≡ length more_given = next_count in omega arith) (λ e. absurd (false_is (rw (← short) e))) off.1 off.2.writes (λ e. absurd (false_is (rw (← short) e))) off.2.settled (λ e. absurd (false_is (rw (← short) e)))
@@ -183,7 +185,7 @@ module _ (bytes : List ℕ) (at now : ℕ) (left0 held0 left : Option (List ℕ)
   -- the same by how a turn ended
   pub exit_turn : (new : Core) (held : Option (List ℕ)) (turn : Turn) (status : ℕ) → turn ≡ Ends status
       → ((messages : List Parsed) (was : List ℕ) → slice_get messages old.messages ≡ Some (message_in text) → Keeps messages old was → held0 ≡ Some was → Turns messages old (message_in text) new held (Ok turn))
-      → Session bytes left held (journal_of new) status 0
+      → SerialSession bytes left held (journal_of new) status 0
   exit_turn new held turn status is turns =
       let four : Turns (messages_in more_given) old (message_in text) new held (Ok (Ends status))
       = subst (λ (t : Turn). Turns (messages_in more_given) old (message_in text) new held (Ok t)) is (turns (messages_in more_given) g.now next_found next_keeps g.held_is) in
@@ -191,7 +193,7 @@ module _ (bytes : List ℕ) (at now : ℕ) (left0 held0 left : Option (List ℕ)
 
   pub sink_turn : (new : Core) (held : Option (List ℕ)) (turn : Turn) → turn ≡ SinkFailed
       → ((messages : List Parsed) (was : List ℕ) → slice_get messages old.messages ≡ Some (message_in text) → Keeps messages old was → held0 ≡ Some was → Turns messages old (message_in text) new held (Ok turn))
-      → Session bytes left held (journal_of new) 5 0
+      → SerialSession bytes left held (journal_of new) 5 0
   sink_turn new held turn is turns =
       let two : Turns (messages_in more_given) old (message_in text) new held (Ok SinkFailed)
       = subst (λ (t : Turn). Turns (messages_in more_given) old (message_in text) new held (Ok t)) is (turns (messages_in more_given) g.now next_found next_keeps g.held_is) in
@@ -199,7 +201,7 @@ module _ (bytes : List ℕ) (at now : ℕ) (left0 held0 left : Option (List ℕ)
 
   pub memory_turn : (new : Core) (held : Option (List ℕ)) (memory : NoMemory)
       → ((messages : List Parsed) (was : List ℕ) → slice_get messages old.messages ≡ Some (message_in text) → Keeps messages old was → held0 ≡ Some was → Turns messages old (message_in text) new held (Err memory))
-      → Session bytes left held (journal_of new) 7 0
+      → SerialSession bytes left held (journal_of new) 7 0
   memory_turn new held memory turns =
       let two : Turns (messages_in more_given) old (message_in text) new held (Err memory)
       = turns (messages_in more_given) g.now next_found next_keeps g.held_is in
@@ -246,13 +248,13 @@ module _ (bytes : List ℕ) (at now : ℕ) (left0 held left : Option (List ℕ))
       → left ≡ Some (drop count g.behind) → EndsAs (length g.front) (take count g.behind) ends
       → ((b : Bool) → StatusIs close b ends (status_of how) offset) → LeavesUnread close bytes (g.front ++ take count g.behind) (drop count g.behind) g.given offset
       → EndsInput (messages_in g.given) old how new g.now res
-      → Session bytes left held (journal_of new) (ended_with res offset).status (ended_with res offset).at
+      → SerialSession bytes left held (journal_of new) (ended_with res offset).status (ended_with res offset).at
   ends_here count ends close how offset new res left_is here stat unread input =
       ended_input bytes (g.front ++ take count g.behind) (drop count g.behind) left held g.given ends close old new how g.now offset res
       (taken_parts bytes g.front g.behind count g.parts) left_is (front_end is_last g.front (take count g.behind) g.given ends g.is_front here) g.held_is few_given (λ e. g.count) stat unread input
 
   pub at_the_edge : (new : Core) (res : Result ℕ NoMemory) → ReadsFrame at now g.behind left End → EndsInput (messages_in g.given) old ending.Edge new g.now res
-      → Session bytes left held (journal_of new) (ended_with res 0).status (ended_with res 0).at
+      → SerialSession bytes left held (journal_of new) (ended_with res 0).status (ended_with res 0).at
   at_the_edge new res read input =
       ends_here read.count edge at_edge ending.Edge 0 new res read.left_is (take_nothing read.count g.behind read.tells) (λ b. (refl, refl, refl)) (drop_nothing read.count g.behind read.tells) input
 
@@ -266,7 +268,7 @@ module _ (bytes : List ℕ) (at now : ℕ) (left0 held left : Option (List ℕ))
       (bad offset, subst (λ (xs : List ℕ). EndsAs (length g.front) xs (bad offset)) (sym (ap (λ (n : ℕ). take n g.behind) w.all ∙ take_whole g.behind)) short, short)
 
   pub at_a_bad : (new : Core) (res : Result ℕ NoMemory) (offset : ℕ) → ReadsFrame at now g.behind left (Bad offset) → EndsInput (messages_in g.given) old ending.Bad new g.now res
-      → Session bytes left held (journal_of new) (ended_with res offset).status (ended_with res offset).at
+      → SerialSession bytes left held (journal_of new) (ended_with res offset).status (ended_with res offset).at
   at_a_bad new res offset read input =
       let tells : (offset ≡ length g.front) × ((first (window (length g.front) g.behind) ≡ wrong) ⊎ EndsWithin (length g.front) g.behind read.count)
       = subst (λ (n : ℕ). (offset ≡ n) × ((first (window n g.behind) ≡ wrong) ⊎ EndsWithin n g.behind read.count)) g.taken_is read.tells in
@@ -275,13 +277,13 @@ module _ (bytes : List ℕ) (at now : ℕ) (left0 held left : Option (List ℕ))
       (subst (λ (w : List ℕ). SplitsInto is_last 0 w g.given (bad offset)) (sym g.parts) (front_end is_last g.front g.behind g.given (bad offset) g.is_front three.2)) input
 
   pub at_a_fault : (new : Core) (res : Result ℕ NoMemory) → ReadsFrame at now g.behind left Failed → EndsInput (messages_in g.given) old ending.Failed new g.now res
-      → Session bytes left held (journal_of new) (ended_with res 0).status (ended_with res 0).at
+      → SerialSession bytes left held (journal_of new) (ended_with res 0).status (ended_with res 0).at
   at_a_fault new res read input =
       let e = ends_cut (length g.front) read.count g.behind front_room read.within read.tells in
       ends_here read.count e.0 at_source ending.Failed 0 new res read.left_is e.1 (λ b. (refl, refl, none_last (length g.front) (take read.count g.behind) e.0 e.1)) tt input
 
   pub at_the_limit : (new : Core) (res : Result ℕ NoMemory) → ReadsFrame at now g.behind left Long → EndsInput (messages_in g.given) old ending.Long new g.now res
-      → Session bytes left held (journal_of new) (ended_with res 0).status (ended_with res 0).at
+      → SerialSession bytes left held (journal_of new) (ended_with res 0).status (ended_with res 0).at
   at_the_limit new res read input =
       let tells : (first (window (length g.front) g.behind) ≡ cut) × (length g.front + read.count ≡ 2 ^ 40)
       = subst (λ (n : ℕ). (first (window n g.behind) ≡ cut) × (n + read.count ≡ 2 ^ 40)) g.taken_is read.tells in
@@ -296,7 +298,7 @@ module _ (bytes : List ℕ) (at now : ℕ) (left0 held left : Option (List ℕ))
   unseen read = (some_split is_last (length g.front) (take read.count g.behind) front_room).0
 
   pub for_memory : (new : Core) (res : Result ℕ NoMemory) (read : ReadsFrame at now g.behind left Memory) → EndsInput (messages_in (g.given ++ unseen read)) old ending.Memory new g.now res
-      → Session bytes left held (journal_of new) (ended_with res 0).status (ended_with res 0).at
+      → SerialSession bytes left held (journal_of new) (ended_with res 0).status (ended_with res 0).at
   for_memory new res read input =
       let split = some_split is_last (length g.front) (take read.count g.behind) front_room in
       ended_input bytes (g.front ++ take read.count g.behind) (drop read.count g.behind) left held (g.given ++ split.0) split.1 at_memory old new ending.Memory g.now 0 res
@@ -368,7 +370,7 @@ idle_turn new turn is idle = subst (λ (t : Turn). LeavesIdle new (Ok t)) is idl
 
 -- a session for which memory was wanting at its start
 pub never_began : (bytes : List ℕ) (left held : Option (List ℕ)) (core : Core) → left ≡ Some bytes → held ≡ Some [] → ((messages : List Parsed) → StandsFor messages core) → journal_of core ≡ [] → IsIdle core
-    → Session bytes left held (journal_of core) 7 0
+    → SerialSession bytes left held (journal_of core) 7 0
 unfolding starts
 never_began bytes left held core left_is held_is stands none idle =
     let g = starts bytes left held core 0 refl left_is held_is stands none idle in

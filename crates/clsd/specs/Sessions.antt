@@ -92,7 +92,7 @@ AreInTime (Load n ∷ past) = AreInTime past
 AreInTime (Reply message mark how ∷ past) = IsInTime how × AreInTime past
 AreInTime (Notify message mark ∷ past) = AreInTime past
 
--- a session over these bytes of its source, which left `left` of them, and wrote to a sink that was empty and now holds
+-- what a session owes whatever server ran it, over these bytes of its source, which left `left` of them, and wrote to a sink that was empty and now holds
 -- `held`: its journal, its status `code`, and the offset that it tells
 pub record Session (bytes : List ℕ) (left held : Option (List ℕ)) (journal : List Entry) (code offset : ℕ) : Type 0 where
   pub taken : List ℕ
@@ -107,9 +107,13 @@ pub record Session (bytes : List ℕ) (left held : Option (List ℕ)) (journal :
   pub written : Writing close (messages_in bodies) (reverse journal) held
   pub status : StatusIs close (is_shut_down (messages_in bodies) (reverse journal)) ends code offset
   pub whole : IsTrue (is_whole close) → pending (messages_in bodies) (reverse journal) ≡ []
-  pub settled : IsSettled (messages_in bodies) (reverse journal)
-  pub in_time : AreInTime (reverse journal)
   pub unread : LeavesUnread close bytes taken rest bodies offset
+
+-- what only a server without workers owes besides: no request is pending where a message is received, and none is ended early
+pub record SerialSession (bytes : List ℕ) (left held : Option (List ℕ)) (journal : List Entry) (code offset : ℕ) : Type 0 where
+  pub session : Session bytes left held journal code offset
+  pub settled : IsSettled (messages_in session.bodies) (reverse journal)
+  pub in_time : AreInTime (reverse journal)
 
 -- a count of faults that didn't rise
 abbrev pub StoodStill : ℕ → ℕ → Type 0

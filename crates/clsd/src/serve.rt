@@ -1,7 +1,7 @@
 ghost use Rattle.std.specs.Prelude.{◌≡◌, ◌≢◌, ℕ, List, [], Some, map, string_bytes};
 ghost use Rattle.cl_base.specs.Faults.{HasCause};
 ghost use Rattle.cl_frames.specs.Sessions.{SplitsInto, after_last};
-ghost use Rattle.clsd.specs.Sessions.{Session, RanToTheEnd, StoodStill, is_last};
+ghost use Rattle.clsd.specs.Sessions.{SerialSession, RanToTheEnd, StoodStill, is_last};
 ghost use Rattle.clsd.specs.Words.{command_in};
 
 use crate::command::{Command, command_of};
@@ -22,7 +22,7 @@ pub fn serve_serial<S: Source, K: Sink, H: HeaderSource>(
     _headers: &mut H,
 ) -> Outcome
     ensures session { (bytes : List ℕ) → command_in (map string_bytes words.now) ≡ Command.Serial → S.left source.old ≡ Some bytes → K.held sink.old ≡ Some []
-        → Session bytes (S.left source.new) (K.held sink.new) result.journal result.status result.at }
+        → SerialSession bytes (S.left source.new) (K.held sink.new) result.journal result.status result.at }
     ensures complete { (bytes : List ℕ) (bodies : List (List ℕ)) (rest : List ℕ) → command_in (map string_bytes words.now) ≡ Command.Serial → S.left source.old ≡ Some bytes → K.held sink.old ≡ Some []
         → SplitsInto is_last 0 bytes bodies (after_last rest) → StoodStill (S.faults source.old) (S.faults source.new) → StoodStill (K.faults sink.old) (K.faults sink.new) → RanToTheEnd result.status }
     ensures served { command_in (map string_bytes words.now) ≡ Command.Serial → result.status ≢ 6 }
@@ -47,7 +47,7 @@ pub fn serve_serial<S: Source, K: Sink, H: HeaderSource>(
 /// Serves one session without workers.
 fn serve<S: Source, K: Sink>(alloc: Global, source: &mut S, sink: &mut K) -> Outcome
     ensures session { (bytes : List ℕ) → S.left source.old ≡ Some bytes → K.held sink.old ≡ Some []
-        → Session bytes (S.left source.new) (K.held sink.new) result.journal result.status result.at }
+        → SerialSession bytes (S.left source.new) (K.held sink.new) result.journal result.status result.at }
     ensures complete { (bytes : List ℕ) (bodies : List (List ℕ)) (rest : List ℕ) → S.left source.old ≡ Some bytes → K.held sink.old ≡ Some []
         → SplitsInto is_last 0 bytes bodies (after_last rest) → StoodStill (S.faults source.old) (S.faults source.new) → StoodStill (K.faults sink.old) (K.faults sink.new) → RanToTheEnd result.status }
     ensures served { result.status ≢ 6 }

@@ -5,7 +5,7 @@ ghost use Rattle.cl_rpc.specs.Messages.{message_in};
 ghost use Rattle.cl_core.specs.Standing.{IsIdle, StandsFor, journal_of};
 ghost use Rattle.cl_core.specs.Steps.{status_of};
 ghost use Rattle.clsd.specs.Serving.{ended_with, EndsInput, Keeps, LeavesIdle, Turns};
-ghost use Rattle.clsd.specs.Sessions.{Session};
+ghost use Rattle.clsd.specs.Sessions.{SerialSession};
 
 use crate::outcome::{NO_MEMORY, SINK_FAILED};
 use crate::turn::{Turn, finish_of, take_message};
@@ -39,7 +39,7 @@ pub fn run<S: Source, K: Sink>(
     requires journal { journal_of core.old ≡ [] }
     requires idle { IsIdle core.old }
     ensures session { (bytes : List ℕ) → S.left source.old ≡ Some bytes → K.held sink.old ≡ Some []
-        → Session bytes (S.left source.new) (K.held sink.new) (journal_of core.new) result.status result.at }
+        → SerialSession bytes (S.left source.new) (K.held sink.new) (journal_of core.new) result.status result.at }
     ensures source { HasCause (S.faults source.old) (S.faults source.new) (result.status ≡ 4) }
     ensures sink { HasCause (K.faults sink.old) (K.faults sink.new) (result.status ≡ 5) }
     ensures words { result.status ≢ 6 }

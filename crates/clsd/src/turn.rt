@@ -87,6 +87,7 @@ fn work(alloc: Global, job: Job) -> Event
 {
     match run_job(alloc, job) {
         JobAnswer::Done(done) => Event::Done(done),
+        JobAnswer::Need(need) => Event::NoMemory(need.job),
         JobAnswer::Memory(job) => Event::NoMemory(job),
     }
 }

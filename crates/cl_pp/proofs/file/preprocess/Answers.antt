@@ -1,31 +1,31 @@
-use Rattle.std.proofs.Common.{List, [], ap, ◌∙◌, ◌++◌, length, subst, sym}
-use Rattle.cl_base.specs.declared.token.PpToken.{PpToken}
-use Rattle.cl_base.specs.declared.token.Token.{Token}
+use Rattle.std.specs.Ordering.{nat_cmp}
+use Rattle.std.specs.BTreeMap.{get}
+use Rattle.std.proofs.Common.{length, subst, sym}
+use Rattle.cl_base.specs.declared.token.PpDone.{PpDone}
 use Rattle.cl_lex.specs.Order.{AreInOrder}
-use Rattle.cl_pp.specs.Preprocessing.{tokens_from}
-use Rattle.cl_pp.proofs.Found.{found, lie_found, start_is, tokens_within}
-use Rattle.cl_pp.proofs.Values.{are_values, values_of}
+use Rattle.cl_pp.proofs.Found.{found, lie_found, order_found, start_is, told_is}
 use Rattle.cl_pp.proofs.file.preprocess.Goals as goal
 
 pub lines-requires : goal.lines-requires
-lines-requires c = record {
-  lie = lie_found c.in_ok-lexed.lexed.tokens c.as_slice-4.result.now c.as_slice.result.now c.in_ok-groups.groups c.as_slice-5.result.now
-      c.as_slice.ensures.value c.as_slice-4.ensures.value c.as_slice-5.ensures.value c.in_ok-groups.ensures;
-}
+lines-requires c =
+    lie_found c.in_ok-lexed.lexed.tokens c.as_slice-5.result.now c.as_slice.result.now c.in_ok-groups.groups c.as_slice-6.result.now
+    c.as_slice.ensures.value c.as_slice-5.ensures.value c.as_slice-6.ensures.value c.in_ok-groups.ensures
 
 pub returns-clause-done : goal.returns-clause-done
 returns-clause-done c =
-    let tokens : List Token = c.as_slice-4.result.now in
-    found c.args.text.now c.in_ok-lexed.lexed c.in_ok-groups.groups c.as_slice.result.now c.as_slice-4.result.now c.as_slice-5.result.now c.lines.new.done c.add_all.new.all
-    c.as_slice.ensures.value c.as_slice-4.ensures.value c.as_slice-5.ensures.value c.in_ok-lexed.ensures.lexes c.in_ok-groups.ensures
+    let old : PpDone = record { tokens = c.new.result; faults = c.add_all.new.all } in
+    found c.args.text.now c.in_ok-lexed.lexed c.in_ok-groups.groups c.as_slice.result.now c.as_slice-5.result.now c.as_slice-6.result.now old c.lines.new.done (get nat_cmp c.in_ok-told.told) (λ i. λ at. told_is c.as_slice-4.result.now c.in_ok-lexed.lexed.faults c.as_slice-4.ensures.value (get nat_cmp c.in_ok-told.told) c.in_ok-told.ensures at i)
+    c.as_slice.ensures.value c.as_slice-5.ensures.value c.as_slice-6.ensures.value c.in_ok-lexed.ensures.lexes c.in_ok-groups.ensures
+    c.new.ensures
     (start_is c.in_ok-lexed.lexed.faults c.in_ok-groups.groups.faults c.as_slice-2.result.now c.as_slice-3.result.now c.in_ok-faults.faults c.add_all.new.all
     c.in_ok-add_all.ensures c.in_ok-faults.ensures c.as_slice-2.ensures.value c.as_slice-3.ensures.value)
-    (c.in_ok-lines.ensures.tokens (values_of tokens) (are_values tokens) ∙ ap (λ (xs : List PpToken). xs ++ tokens_from tokens (values_of tokens) [] c.as_slice-5.result.now) c.new.ensures)
-    (c.in_ok-lines.ensures.faults (values_of tokens) (are_values tokens))
+    c.in_ok-lines.ensures
 
-pub returns-clause-within : goal.returns-clause-within
-returns-clause-within c =
-    let tokens : List Token = c.as_slice-4.result.now in
-    tokens_within (length c.args.text.now) tokens c.as_slice-5.result.now c.lines.new.done.tokens
-    (subst (AreInOrder 0 (length c.args.text.now)) (sym c.as_slice-4.ensures.value) c.in_ok-lexed.ensures.order)
-    (c.in_ok-lines.ensures.tokens (values_of tokens) (are_values tokens) ∙ ap (λ (xs : List PpToken). xs ++ tokens_from tokens (values_of tokens) [] c.as_slice-5.result.now) c.new.ensures)
+pub returns-clause-order : goal.returns-clause-order
+returns-clause-order c =
+    let old : PpDone = record { tokens = c.new.result; faults = c.add_all.new.all } in
+    order_found (length c.args.text.now) c.as_slice-5.result.now (get nat_cmp c.in_ok-told.told) c.as_slice-6.result.now old c.lines.new.done
+    (subst (AreInOrder 0 (length c.args.text.now)) (sym c.as_slice-5.ensures.value) c.in_ok-lexed.ensures.order)
+    (lie_found c.in_ok-lexed.lexed.tokens c.as_slice-5.result.now c.as_slice.result.now c.in_ok-groups.groups c.as_slice-6.result.now
+    c.as_slice.ensures.value c.as_slice-5.ensures.value c.as_slice-6.ensures.value c.in_ok-groups.ensures)
+    c.new.ensures c.in_ok-lines.ensures

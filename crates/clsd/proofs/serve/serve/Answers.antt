@@ -11,7 +11,7 @@ returns-in-Err-clause-session g c bytes told empty =
 pub returns-in-Ok-clause-complete : goal.returns-in-Ok-clause-complete
 returns-in-Ok-clause-complete g c bytes bodies rest told empty splits still quiet =
     rw c.outcome.ensures.ended.0
-    (completes bytes _ _ _ _ _ bodies rest (c.run-ended.ensures.session bytes told empty) splits
+    (completes bytes _ _ _ _ _ bodies rest (c.run-ended.ensures.session bytes told empty).session splits
     (λ is. still (c.run-ended.ensures.source.rose is)) (λ is. quiet (c.run-ended.ensures.sink.rose is)))
 
 pub returns-in-Err-clause-complete : goal.returns-in-Err-clause-complete

@@ -1,0 +1,5 @@
+use Rattle.cl_pp.proofs.Existing.{some_preprocessing}
+use Rattle.cl_pp.proofs.laws.some_preprocessing.Goals as goal
+
+pub returns : goal.returns
+returns c = some_preprocessing

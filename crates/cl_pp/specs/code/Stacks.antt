@@ -1,0 +1,50 @@
+-- How the code follows the sections that are open: their answers, the innermost first.
+use Rattle.std.specs.Prelude.{◌≡◌, ℕ, Bool, true, false, not, ◌&&◌, List, [], ◌∷◌, ◌++◌, Option}
+use Rattle.cl_base.specs.declared.token.Fault.{Fault}
+use Rattle.cl_base.specs.declared.token.Token.{Token}
+use Rattle.cl_base.specs.declared.token.PpDone.{PpDone}
+use Rattle.cl_cond.specs.declared.eval.IfValue.{IfValue}
+use Rattle.cl_cond.specs.declared.mark.Mark.{Mark}
+use Rattle.cl_pp.specs.Preprocessing.{AreValues, faults_from, tokens_from}
+use Rattle.cl_cond.specs.declared.mark.Part.{Part}
+use Rattle.cl_cond.specs.declared.mark.Part.TheVariants.{Line, Branch, End}
+use Rattle.cl_cond.specs.Sections.{opens}
+use Rattle.cl_pp.specs.Activity.{Question, Active, Free, Outer}
+use Rattle.cl_pp.specs.declared.section.Section.{Section}
+
+abbrev pub tell : Section → Question → Bool
+tell s Active = s.active
+tell s Free = s.free
+tell s Outer = s.outer
+
+abbrev pub all_active : Section
+all_active = record { active = true; free = true; outer = true }
+
+abbrev pub top_of : List Section → Section
+top_of [] = all_active
+top_of (s ∷ stack) = s
+
+abbrev pub below : List Section → List Section
+below [] = []
+below (s ∷ stack) = stack
+
+-- a branch whose condition is so, where it may be taken or not
+abbrev pub branched : Bool → Bool → Bool → Section
+branched held may outer = record { active = held && may; free = not held && may; outer = outer }
+
+abbrev pub under : Bool → Bool → List Section → List Section
+under true held stack = branched held (top_of stack).active (top_of stack).active ∷ stack
+under false held stack = branched held (top_of stack).free (top_of stack).outer ∷ below stack
+
+-- after a line
+abbrev pub stacked : Part → Bool → List Section → List Section
+stacked Line held stack = stack
+stacked End held stack = below stack
+stacked (Branch c) held stack = under (opens c) held stack
+
+-- what the lines add to what is there
+pub record Adds (tokens : List Token) (begins : ℕ → Option Fault) (marks : List Mark) (old new : PpDone) : Type 0 where
+  pub values : List (Option IfValue)
+  pub evaluated : AreValues tokens [] marks values
+  pub tokens_are : new.tokens ≡ old.tokens ++ tokens_from tokens [] marks values
+  pub faults_are : new.faults ≡ old.faults ++ faults_from tokens begins [] marks values
