@@ -1,14 +1,12 @@
 -- In a legal journal each request gets one reply.
-use Rattle.std.proofs.Common.{◌≡◌, ℕ, ℤ, ◌+◌, ◌<◌, ◌≤◌, ◌&&◌, ◌||◌, min, List, [], ◌∷◌, map, filter, Bool, true, false, not, if◌then◌else◌, refl, sym, ap, ◌∙◌, subst, arith, nat_eq, eq-eqb, eqb-true}
+use Rattle.std.proofs.Common.{◌≡◌, ℕ, ℤ, ◌+◌, ◌<◌, ◌≤◌, min, List, [], ◌∷◌, map, filter, Bool, true, false, if◌then◌else◌, refl, sym, ap, ◌∙◌, subst, arith, nat_eq, eq-eqb, eqb-true}
 use Rattle.std.proofs.lemmas.Bool.{eqb-false}
-use Rattle.std.specs.Prelude.{Option, Some, None, is_some}
-use Rattle.cl_rpc.specs.declared.id.Id.{Id}
+use Rattle.std.specs.Prelude.{Option, Some, None}
 use Rattle.cl_rpc.specs.declared.out.How.{How}
 use Rattle.cl_rpc.specs.declared.out.How.TheVariants as how
 use Rattle.cl_rpc.specs.Classes.{Class, initialises, shuts_down, queries, unknown, bad_params, invalid, opens, changes, closes, cancels, watched, exits, dropped}
 use Rattle.cl_history.specs.declared.entry.Entry.{Entry}
 use Rattle.cl_history.specs.declared.entry.Entry.TheVariants.{In, Load, Reply, Notify}
-use Rattle.cl_history.specs.Refusals.{is_open, document_of}
 use Rattle.cl_history.specs.Given.{Given, Needs, said, received}
 use Rattle.cl_history.specs.History.{is_initialised, is_shut_down, is_pending, text_at, is_query, pending, End, ends, is_meant, pending_meant, without, refusal}
 use Rattle.cl_history.specs.Legal.{Due, all_as, due_to_accepted, due_by, due_to, rest_of, owed, MayReply, AllFollow, IsLegal}

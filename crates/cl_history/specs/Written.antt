@@ -1,5 +1,5 @@
 -- What a journal writes.
-use Rattle.std.specs.Prelude.{◌≡◌, ℕ, ℤ, List, [], ◌∷◌, ◌++◌, Option, Some, None}
+use Rattle.std.specs.Prelude.{◌≡◌, ℕ, ℤ, List, [], ◌∷◌, ◌++◌, Some}
 use Rattle.cl_base.specs.declared.answer.Answer.{Answer}
 use Rattle.cl_headers.specs.Headers.{Headers}
 use Rattle.cl_rpc.specs.declared.out.How.{How}
