@@ -101,5 +101,6 @@ fn take(alloc: Global, core: &mut State, parsed: &Parsed) -> Mem<List<Effect>>
     ensures err { OnErr result (core.new ≡ core.old) }
 {
     let decision = decide(alloc, core, parsed.class())?;
-    apply(alloc, core, decision)
+    let effects = apply(alloc, core, decision)?;
+    Ok(effects)
 }

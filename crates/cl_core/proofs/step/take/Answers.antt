@@ -12,4 +12,4 @@ apply-requires-clause-above c =
 pub returns-clause-ok : goal.returns-clause-ok
 returns-clause-ok c =
     let is : Decides c.args.core.now (class_of c.args.parsed.now) c.in_ok-decision.decision = subst (λ (k : Class). Decides c.args.core.now k c.in_ok-decision.decision) c.class.ensures c.in_ok-decision.ensures in
-    ?
+    decided_takes c.args.core.now c.apply.new.core (class_of c.args.parsed.now) c.in_ok-decision.decision c.in_ok-effects.effects c.requires.none_awaited is c.in_ok-effects.ensures.ok
