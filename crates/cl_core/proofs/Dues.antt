@@ -1,46 +1,34 @@
 -- What is due after a message is what the core replies.
 use Rattle.std.proofs.Common.{◌≡◌, ℕ, ℤ, ◌+◌, List, [], ◌∷◌, map, filter, length, reverse, ap, sym, ◌∙◌, refl, Bool, true, false, Some, None, Option}
-use Rattle.std.specs.Prelude.{is_some, option_map, slice_get, unwrap_or, if◌then◌else◌}
+use Rattle.std.specs.Prelude.{◌&&◌, is_some, option_map, slice_get, unwrap_or, if◌then◌else◌}
 use Rattle.std.specs.List.{list_any, AllByRecursion}
-use Rattle.std.specs.Str.{bytes_eq}
-use Rattle.cl_store.specs.declared.docs.Doc.{Doc}
-use Rattle.cl_store.specs.Docs.{doc_at}
 use Rattle.cl_rpc.specs.declared.id.Id.{Id}
-use Rattle.cl_rpc.specs.declared.call.Call.{Call}
-use Rattle.cl_rpc.specs.declared.call.Call.TheVariants as call
 use Rattle.cl_rpc.specs.declared.call.Parsed.{Parsed}
 use Rattle.cl_rpc.specs.declared.call.Parsed.TheVariants as parsed
 use Rattle.cl_rpc.specs.declared.out.How.{How}
-use Rattle.cl_rpc.specs.declared.out.How.TheVariants as how
 use Rattle.cl_rpc.specs.declared.out.Reply.{Reply}
+use Rattle.cl_rpc.specs.Classes.{Class, class_of, initialises, shuts_down, queries, unknown, bad_params, invalid, opens, changes, closes, cancels, watched, exits, dropped}
+use Rattle.cl_history.specs.declared.entry.Entry.{Entry}
+use Rattle.cl_history.specs.declared.entry.Entry.TheVariants as entry
+use Rattle.cl_history.specs.Given.{Given, said}
+use Rattle.cl_history.specs.Refusals.{refusal_of, is_open, document_of}
+use Rattle.cl_history.specs.History.{refusal, refusal_by_id, asks_by, pending, is_pending, is_initialised, is_shut_down, text_at, End, by_id, on_document, ends, is_meant, pending_meant}
+use Rattle.cl_history.specs.Legal.{Due, all_as, due_to_accepted, due_by, due_to, how_ended, owed}
 use Rattle.cl_core.specs.declared.core_state.Core.{Core}
-use Rattle.cl_core.specs.declared.event.Entry.{Entry}
-use Rattle.cl_core.specs.declared.event.Entry.TheVariants as entry
-use Rattle.cl_core.specs.declared.event.Effect.{Effect}
 use Rattle.cl_core.specs.declared.waiting.Waiting.{Waiting}
-use Rattle.cl_core.specs.Waiting.{has_id, same_id}
-use Rattle.cl_core.specs.Refusals.{refusal_of, is_open, document_of}
-use Rattle.cl_core.specs.History.{said, refusal, asks_by, asks_on, pending, pending_on, is_pending, is_initialised, is_shut_down, text_at}
-use Rattle.cl_core.specs.Legal.{Due, all_as, due_to_request, due_to_notice, due_to, owed}
-use Rattle.cl_core.specs.Deciding.{texts_of, core_refusal, entry_of, ended, ended_waiting, how_ended, replies_to_request, replies_of}
-use Rattle.cl_core.specs.Steps.{Takes}
+use Rattle.cl_core.specs.Waiting.{has_id, number_of, class_of_waiting}
+use Rattle.cl_core.specs.Deciding.{texts_of, core_refusal, core_refusal_by_id, entry_of, ended, ends_by, meant_by, replies_if_accepted, replies_by, replies_of}
 use Rattle.cl_core.specs.Standing.{Asks, StandsFor, past_of}
-use Rattle.cl_core.proofs.Onto.{onto, onto_past}
+
+pub said_is : (given : Given) (n : ℕ) (p : Parsed) → slice_get given.messages n ≡ Some p → said given n ≡ class_of p
+said_is given n p e = ap (λ (o : Option Parsed). class_of (unwrap_or o parsed.Ignored)) e
 
 -- ---- tests on the requests that wait are tests on their messages
 
-pub said_is : (messages : List Parsed) (n : ℕ) (p : Parsed) → slice_get messages n ≡ Some p → said messages n ≡ p
-said_is messages n p e = ap (λ (o : Option Parsed). unwrap_or o parsed.Ignored) e
-
--- the number of the message of a request that waits
-abbrev pub number_of : Waiting → ℕ
-number_of w = w.job.message
-
-pub same_any : (messages : List Parsed) (past : List Entry) (f : Waiting → Bool) (g : Parsed → Bool)
-    → ((w : Waiting) → f w ≡ g (parsed.Request w.id (call.Symbols w.job.path)))
-    → (ws : List Waiting) → AllByRecursion (Asks messages past) ws → list_any f ws ≡ list_any (λ n. g (said messages n)) (map number_of ws)
-same_any messages past f g same [] all = refl
-same_any messages past f g same (w ∷ ws) all = rw (all.0.said_so, same w, same_any messages past f g same ws all.1) refl
+pub same_any : (given : Given) (past : List Entry) (f : Waiting → Bool) (g : Class → Bool) → ((w : Waiting) → f w ≡ g (class_of_waiting w))
+    → (ws : List Waiting) → AllByRecursion (Asks given past) ws → list_any f ws ≡ list_any (λ n. g (said given n)) (map number_of ws)
+same_any given past f g same [] all = refl
+same_any given past f g same (w ∷ ws) all = rw (all.0.said_so, same w, same_any given past f g same ws all.1) refl
 
 kept_if : (b : Bool) (w : Waiting) (ws : List Waiting) (ns : List ℕ) → map number_of ws ≡ ns
     → map number_of (if b then w ∷ ws else ws) ≡ (if b then number_of w ∷ ns else ns)
@@ -51,13 +39,12 @@ kept : (f : Waiting → Bool) (q : ℕ → Bool) (w : Waiting) (ws : List Waitin
     → map number_of (filter f (w ∷ ws)) ≡ filter q (map number_of (w ∷ ws))
 kept f q w ws e more = rw (← e) (kept_if (f w) w (filter f ws) (filter q (map number_of ws)) more)
 
-pub same_filter : (messages : List Parsed) (past : List Entry) (f : Waiting → Bool) (g : Parsed → Bool)
-    → ((w : Waiting) → f w ≡ g (parsed.Request w.id (call.Symbols w.job.path)))
-    → (ws : List Waiting) → AllByRecursion (Asks messages past) ws → map number_of (filter f ws) ≡ filter (λ n. g (said messages n)) (map number_of ws)
-same_filter messages past f g same [] all = refl
-same_filter messages past f g same (w ∷ ws) all =
-    let e : f w ≡ g (said messages w.job.message) = same w ∙ sym (ap g (said_is messages w.job.message (parsed.Request w.id (call.Symbols w.job.path)) all.0.said_so)) in
-    kept f (λ n. g (said messages n)) w ws e (same_filter messages past f g same ws all.1)
+pub same_filter : (given : Given) (past : List Entry) (f : Waiting → Bool) (g : Class → Bool) → ((w : Waiting) → f w ≡ g (class_of_waiting w))
+    → (ws : List Waiting) → AllByRecursion (Asks given past) ws → map number_of (filter f ws) ≡ filter (λ n. g (said given n)) (map number_of ws)
+same_filter given past f g same [] all = refl
+same_filter given past f g same (w ∷ ws) all =
+    let e : f w ≡ g (said given w.job.message) = same w ∙ sym (ap g all.0.said_so) in
+    kept f (λ n. g (said given n)) w ws e (same_filter given past f g same ws all.1)
 
 -- ---- refusals
 
@@ -65,26 +52,37 @@ same_open : (f g : List ℕ → Option (List ℕ)) → ((path : List ℕ) → f 
 same_open f g same None = refl
 same_open f g same (Some path) = ap is_some (same path)
 
-pub waits_if_pending : (messages : List Parsed) (core : Core) (i : Id) → StandsFor messages core → is_pending messages (past_of core) i ≡ list_any (has_id i) core.pending
-waits_if_pending messages core i stands =
-    ap (list_any (λ n. asks_by i (said messages n))) (sym stands.waiting)
-    ∙ sym (same_any messages (past_of core) (has_id i) (asks_by i) (λ w. refl) core.pending stands.asks)
+pub waits_if_pending : (given : Given) (core : Core) (i : Id) → StandsFor given core → is_pending given (past_of core) i ≡ list_any (has_id i) core.pending
+waits_if_pending given core i stands =
+    ap (list_any (λ n. asks_by i (said given n))) (sym stands.waiting)
+    ∙ sym (same_any given (past_of core) (has_id i) (asks_by i) (λ w. refl) core.pending stands.asks)
 
-pub same_refusal : (messages : List Parsed) (core : Core) (i : Id) (c : Call) → StandsFor messages core
-    → refusal messages (past_of core) (parsed.Request i c) ≡ core_refusal core i c
-same_refusal messages core i c stands =
+same_refusal_by_id : (given : Given) (core : Core) (i : Id) (k : Class) → StandsFor given core → refusal_by_id given (past_of core) i k ≡ core_refusal_by_id core i k
+same_refusal_by_id given core i k stands =
     let past = past_of core in
-    ap (λ (b : Bool). refusal_of b (is_shut_down messages past) (is_pending messages past i) (is_open (text_at messages past) (document_of c)) c) (sym stands.initialised)
-    ∙ ap (λ (b : Bool). refusal_of core.initialised b (is_pending messages past i) (is_open (text_at messages past) (document_of c)) c) (sym stands.shut_down)
-    ∙ ap (λ (b : Bool). refusal_of core.initialised core.shut_down b (is_open (text_at messages past) (document_of c)) c) (waits_if_pending messages core i stands)
-    ∙ ap (λ (b : Bool). refusal_of core.initialised core.shut_down (list_any (has_id i) core.pending) b c)
-    (same_open (text_at messages past) (texts_of core.docs) (λ path. sym (stands.texts path)) (document_of c))
+    ap (λ (b : Bool). refusal_of b (is_shut_down given past) (is_pending given past i) (is_open (text_at given past) (document_of k)) k) (sym stands.initialised)
+    ∙ ap (λ (b : Bool). refusal_of core.initialised b (is_pending given past i) (is_open (text_at given past) (document_of k)) k) (sym stands.shut_down)
+    ∙ ap (λ (b : Bool). refusal_of core.initialised core.shut_down b (is_open (text_at given past) (document_of k)) k) (waits_if_pending given core i stands)
+    ∙ ap (λ (b : Bool). refusal_of core.initialised core.shut_down (list_any (has_id i) core.pending) b k)
+    (same_open (text_at given past) (texts_of core.docs) (λ path. sym (stands.texts path)) (document_of k))
 
--- ---- the past after a message
+pub same_refusal : (given : Given) (core : Core) (k : Class) → StandsFor given core → refusal given (past_of core) k ≡ core_refusal core k
+same_refusal given core (initialises i) stands = same_refusal_by_id given core i (initialises i) stands
+same_refusal given core (shuts_down i) stands = same_refusal_by_id given core i (shuts_down i) stands
+same_refusal given core (queries i query path) stands = same_refusal_by_id given core i (queries i query path) stands
+same_refusal given core (unknown i) stands = same_refusal_by_id given core i (unknown i) stands
+same_refusal given core (bad_params i b) stands = same_refusal_by_id given core i (bad_params i b) stands
+same_refusal given core _ stands = refl
 
-pub new_past : (old new : Core) (p : Parsed) (effects : List Effect) → Takes old p new effects
-    → past_of new ≡ onto (map entry_of (replies_of old p)) (entry.In old.messages ∷ past_of old)
-new_past old new p effects takes = ap reverse takes.journal ∙ onto_past old.journal (entry.In old.messages ∷ map entry_of (replies_of old p))
+-- ---- which requests a message ends
+
+pub same_ends : (given : Given) (core : Core) (k : Class) → StandsFor given core → ends (is_initialised given (past_of core)) (text_at given (past_of core)) k ≡ ends_by core k
+same_ends given core (cancels i) stands = ap (λ (b : Bool). if b then Some (by_id i) else None) (sym stands.initialised)
+same_ends given core (opens path version text) stands = ap (λ (b : Bool). if b then Some (on_document path) else None) (sym stands.initialised)
+same_ends given core (changes path version text) stands =
+    ap (λ (b : Bool). if b && is_some (text_at given (past_of core) path) then Some (on_document path) else None) (sym stands.initialised)
+    ∙ ap (λ (o : Option (List ℕ)). if core.initialised && is_some o then Some (on_document path) else None) (sym (stands.texts path))
+same_ends given core _ stands = refl
 
 -- ---- what is due after a message
 
@@ -95,81 +93,42 @@ dues_ended : (mark : ℕ) (h : How) (ws : List Waiting) → map due_of (ended ma
 dues_ended mark h [] = refl
 dues_ended mark h (w ∷ ws) = ap (λ (dues : List Due). (w.job.message, h) ∷ dues) (dues_ended (mark + 1) h ws)
 
-dues_to_request : (n mark : ℕ) (i : Id) (code : Option ℤ) (c : Call) → due_to_request n code c ≡ map due_of (replies_to_request n mark i code c)
-dues_to_request n mark i (Some code) c = refl
-dues_to_request n mark i None call.Initialize = refl
-dues_to_request n mark i None call.Shutdown = refl
-dues_to_request n mark i None call.Exit = refl
-dues_to_request n mark i None (call.DidOpen path version text) = refl
-dues_to_request n mark i None (call.DidChange path version text) = refl
-dues_to_request n mark i None (call.DidClose path) = refl
-dues_to_request n mark i None (call.Watched paths) = refl
-dues_to_request n mark i None (call.Cancel j) = refl
-dues_to_request n mark i None (call.Symbols path) = refl
-dues_to_request n mark i None call.Unknown = refl
-dues_to_request n mark i None (call.BadParams b) = refl
+dues_meant : (given : Given) (core : Core) (mark : ℕ) (h : How) (o : Option End) → StandsFor given core
+    → all_as h (pending_meant given (past_of core) o) ≡ map due_of (ended mark h (meant_by o core.pending))
+dues_meant given core mark h None stands = refl
+dues_meant given core mark h (Some e) stands =
+    ap (λ (ns : List ℕ). all_as h (filter (λ n. is_meant e (said given n)) ns)) (sym stands.waiting)
+    ∙ ap (all_as h) (sym (same_filter given (past_of core) (λ w. is_meant e (class_of_waiting w)) (is_meant e) (λ w. refl) core.pending stands.asks))
+    ∙ sym (dues_ended mark h (meant_by (Some e) core.pending))
 
--- those of the requests that wait, by a test on what their messages say
-ended_dues : (messages : List Parsed) (core : Core) (f : Waiting → Bool) (g : Parsed → Bool) (mark : ℕ) (h : How)
-    → ((w : Waiting) → f w ≡ g (parsed.Request w.id (call.Symbols w.job.path))) → StandsFor messages core
-    → all_as h (filter (λ n. g (said messages n)) (pending messages (past_of core))) ≡ map due_of (ended mark h (filter f core.pending))
-ended_dues messages core f g mark h same stands =
-    ap (λ (ns : List ℕ). all_as h (filter (λ n. g (said messages n)) ns)) (sym stands.waiting)
-    ∙ ap (all_as h) (sym (same_filter messages (past_of core) f g same core.pending stands.asks))
-    ∙ sym (dues_ended mark h (filter f core.pending))
+dues_by_end : (given : Given) (core : Core) (mark : ℕ) (k : Class) → StandsFor given core
+    → all_as (how_ended k) (pending_meant given (past_of core) (ends (is_initialised given (past_of core)) (text_at given (past_of core)) k))
+    ≡ map due_of (ended mark (how_ended k) (meant_by (ends_by core k) core.pending))
+dues_by_end given core mark k stands =
+    ap (λ (o : Option End). all_as (how_ended k) (pending_meant given (past_of core) o)) (same_ends given core k stands) ∙ dues_meant given core mark (how_ended k) (ends_by core k) stands
 
-dues_if : (a b : Bool) (dues : List Due) (mark : ℕ) (h : How) (ws : List Waiting) → a ≡ b → dues ≡ map due_of (ended mark h ws)
-    → (if a then dues else []) ≡ map due_of (ended mark h (if b then ws else []))
-dues_if true b dues mark h ws e is = rw (← e) is
-dues_if false b dues mark h ws e is = rw (← e) refl
+dues_accepted : (given : Given) (core : Core) (mark : ℕ) (k : Class) → StandsFor given core
+    → due_to_accepted given (past_of core) core.messages k ≡ map due_of (replies_if_accepted core mark k)
+dues_accepted given core mark (initialises i) stands = refl
+dues_accepted given core mark (shuts_down i) stands = refl
+dues_accepted given core mark (queries i query path) stands = refl
+dues_accepted given core mark (unknown i) stands = refl
+dues_accepted given core mark (bad_params i b) stands = refl
+dues_accepted given core mark (invalid i code) stands = refl
+dues_accepted given core mark (cancels i) stands = dues_by_end given core mark (cancels i) stands
+dues_accepted given core mark (opens path version text) stands = dues_by_end given core mark (opens path version text) stands
+dues_accepted given core mark (changes path version text) stands = dues_by_end given core mark (changes path version text) stands
+dues_accepted given core mark _ stands = refl
 
-pub is_some-text : (o : Option Doc) → is_some (option_map (λ (d : Doc). d.text) o) ≡ is_some o
-is_some-text None = refl
-is_some-text (Some d) = refl
-
-pub stands_open : (messages : List Parsed) (core : Core) (path : List ℕ) → StandsFor messages core → is_some (text_at messages (past_of core) path) ≡ is_some (doc_at core.docs path)
-stands_open messages core path stands = ap is_some (sym (stands.texts path)) ∙ is_some-text (doc_at core.docs path)
-
-dues_to_notice : (messages : List Parsed) (core : Core) (c : Call) (mark : ℕ) → StandsFor messages core
-    → due_to_notice messages (past_of core) c ≡ map due_of (ended mark (how_ended c) (ended_waiting core c))
-dues_to_notice messages core call.Initialize mark stands = refl
-dues_to_notice messages core call.Shutdown mark stands = refl
-dues_to_notice messages core call.Exit mark stands = refl
-dues_to_notice messages core (call.DidOpen path version text) mark stands =
-    ended_dues messages core (λ w. bytes_eq w.job.path path) (asks_on path) mark how.Modified (λ w. refl) stands
-dues_to_notice messages core (call.DidChange path version None) mark stands = refl
-dues_to_notice messages core (call.DidChange path version (Some text)) mark stands =
-    dues_if (is_some (text_at messages (past_of core) path)) (is_some (doc_at core.docs path)) (all_as how.Modified (pending_on messages (past_of core) path)) mark how.Modified
-    (filter (λ w. bytes_eq w.job.path path) core.pending)
-    (stands_open messages core path stands)
-    (ended_dues messages core (λ w. bytes_eq w.job.path path) (asks_on path) mark how.Modified (λ w. refl) stands)
-dues_to_notice messages core (call.DidClose path) mark stands = refl
-dues_to_notice messages core (call.Watched paths) mark stands = refl
-dues_to_notice messages core (call.Cancel i) mark stands =
-    ended_dues messages core (λ w. same_id i w.id) (asks_by i) mark how.Cancelled (λ w. refl) stands
-dues_to_notice messages core (call.Symbols path) mark stands = refl
-dues_to_notice messages core call.Unknown mark stands = refl
-dues_to_notice messages core (call.BadParams b) mark stands = refl
-
-dues_if_initialised : (a b : Bool) (dues : List Due) (rs : List Reply) → b ≡ a → dues ≡ map due_of rs
-    → (if a then dues else []) ≡ map due_of (if b then rs else [])
-dues_if_initialised true b dues rs e is = rw e is
-dues_if_initialised false b dues rs e is = rw e refl
-
-dues_to : (messages : List Parsed) (core : Core) (p : Parsed) → StandsFor messages core
-    → due_to messages (past_of core) core.messages p ≡ map due_of (replies_of core p)
-dues_to messages core (parsed.Request i c) stands =
-    ap (λ (code : Option ℤ). due_to_request core.messages code c) (same_refusal messages core i c stands)
-    ∙ dues_to_request core.messages (length core.journal + 1) i (core_refusal core i c) c
-dues_to messages core (parsed.Notification c) stands =
-    dues_if_initialised (is_initialised messages (past_of core)) core.initialised (due_to_notice messages (past_of core) c)
-    (ended (length core.journal + 1) (how_ended c) (ended_waiting core c))
-    stands.initialised (dues_to_notice messages core c (length core.journal + 1) stands)
-dues_to messages core parsed.Ignored stands = refl
-dues_to messages core (parsed.Refused i code) stands = refl
+dues_by : (given : Given) (core : Core) (mark : ℕ) (o : Option ℤ) (k : Class) → StandsFor given core
+    → due_by given (past_of core) core.messages o k ≡ map due_of (replies_by core mark o k)
+dues_by given core mark (Some code) k stands = refl
+dues_by given core mark None k stands = dues_accepted given core mark k stands
 
 -- what is due directly after a message is the replies of the core
-pub owed_first : (messages : List Parsed) (core : Core) (p : Parsed) → slice_get messages core.messages ≡ Some p → StandsFor messages core
-    → owed messages (entry.In core.messages ∷ past_of core) ≡ map due_of (replies_of core p)
-owed_first messages core p is stands =
-    ap (due_to messages (past_of core) core.messages) (said_is messages core.messages p is) ∙ dues_to messages core p stands
+pub owed_first : (given : Given) (core : Core) (k : Class) → said given core.messages ≡ k → StandsFor given core
+    → owed given (entry.In core.messages ∷ past_of core) ≡ map due_of (replies_of core k)
+owed_first given core k says stands =
+    ap (due_to given (past_of core) core.messages) says
+    ∙ ap (λ (o : Option ℤ). due_by given (past_of core) core.messages o k) (same_refusal given core k stands)
+    ∙ dues_by given core (length core.journal + 1) (core_refusal core k) k stands

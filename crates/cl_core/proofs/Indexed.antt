@@ -20,10 +20,11 @@ use Rattle.cl_rpc.specs.declared.id.Id.TheVariants as id
 use Rattle.cl_core.specs.declared.waiting.Waiting.{Waiting}
 use Rattle.cl_core.specs.declared.index.Ids.{Ids}
 use Rattle.cl_core.specs.declared.index.Documents.{Documents}
-use Rattle.cl_core.specs.History.{without}
-use Rattle.cl_core.specs.Waiting.{same_id, has_id}
+use Rattle.cl_history.specs.History.{without}
+use Rattle.cl_rpc.specs.Classes.{same_id}
+use Rattle.cl_core.specs.Waiting.{has_id, number_of}
 use Rattle.cl_core.specs.Steps.{is_nil}
-use Rattle.cl_core.specs.Indexes.{IsIndexed, number_of, message_by, messages_on, found_in}
+use Rattle.cl_core.specs.Indexes.{IsIndexed, message_by, messages_on, found_in}
 use Rattle.cl_core.proofs.Putting.{greater, is_at_number, same_bytes}
 use Rattle.cl_core.proofs.Waits.{map-filter, one_of, all_left}
 
@@ -61,10 +62,10 @@ all_off m (e ∷ es) keyed above =
     let same : e.0 ≡ number_of e.1 = keyed.0 in
     rw (ne_eqb (number_of e.1) m (λ h. omega arith), all_off m es keyed.1 above.1) refl
 
-at_test : (m : ℕ) (e : ℕ × Waiting) → e.0 ≡ number_of e.1 → is_eq (nat_cmp m e.0) ≡ nat_eq (number_of e.1) m
+pub at_test : (m : ℕ) (e : ℕ × Waiting) → e.0 ≡ number_of e.1 → is_eq (nat_cmp m e.0) ≡ nat_eq (number_of e.1) m
 at_test m e same = is_at_number m e.0 ∙ ap (λ (k : ℕ). nat_eq k m) same
 
-above_here : (m : ℕ) (e : ℕ × Waiting) (es : Entries) → e.0 ≡ number_of e.1 → Sorted (e ∷ es) → nat_eq (number_of e.1) m ≡ true → AllByRecursion (λ k. nat_cmp m k ≡ Less) (keys_of es)
+pub above_here : (m : ℕ) (e : ℕ × Waiting) (es : Entries) → e.0 ≡ number_of e.1 → Sorted (e ∷ es) → nat_eq (number_of e.1) m ≡ true → AllByRecursion (λ k. nat_cmp m k ≡ Less) (keys_of es)
 above_here m e es same s h =
     subst (λ (n : ℕ). AllByRecursion (λ k. nat_cmp n k ≡ Less) (keys_of es)) (same ∙ eqb-true (number_of e.1) m h) (sorted_head nat_cmp e.0 (keys_of es) s)
 
@@ -477,3 +478,14 @@ none_by false w some e = (refl, e)
 pub none_meant : (p : Waiting → Bool) (ws : List Waiting) → None ≡ slice_get (map number_of (filter p ws)) 0 → filter (λ w. not (p w)) ws ≡ ws
 none_meant p [] e = refl
 none_meant p (w ∷ ws) e = let h = none_by (p w) w (filter p ws) e in rw (h.0, none_meant p ws h.1) refl
+
+pub number_one : (m : ℕ) (w : Waiting) (ws : List Waiting) → w ∷ [] ≡ filter (on_number m) ws → w.job.message ≡ m
+number_one m w [] e = absurd (cc)
+number_one m w (v ∷ ws) e = number_by (on_number m v) m w v ws refl e (number_one m w ws)
+  where
+    head_of_list : (x y : Waiting) (xs ys : List Waiting) → x ∷ xs ≡ y ∷ ys → x ≡ y
+    head_of_list x y xs ys e = ap (λ (us : List Waiting). elim us [ [] ↦ x | u ∷ more ↦ u ]) e
+    number_by : (b : Bool) (m : ℕ) (w v : Waiting) (ws : List Waiting) → on_number m v ≡ b → w ∷ [] ≡ cond b (v ∷ filter (on_number m) ws) (filter (on_number m) ws)
+        → (w ∷ [] ≡ filter (on_number m) ws → w.job.message ≡ m) → w.job.message ≡ m
+    number_by true m w v ws is e more = ap (λ (u : Waiting). u.job.message) (head_of_list w v [] (filter (on_number m) ws) e) ∙ eqb-true v.job.message m is
+    number_by false m w v ws is e more = more e

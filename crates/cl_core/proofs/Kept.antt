@@ -1,76 +1,100 @@
 -- What each step keeps.
-use Rattle.std.proofs.Common.{ℕ, List, ◌++◌, length, Bool, true, false, MatchBool, Result, Ok, Err, OnErr, refl, sym, subst}
+use Rattle.std.proofs.Common.{◌≡◌, ◌⊎◌, ℕ, List, [], ◌∷◌, ◌++◌, length, map, Bool, true, false, MatchBool, refl, sym, ap, ◌∙◌, subst}
+use Rattle.std.specs.Prelude.{Option, Some, None, ◌&&◌, not, option_map, unwrap_or, slice_get}
+use Rattle.std.specs.Str.{bytes_eq}
+use Rattle.std.proofs.lemmas.Bool.{false≢true}
+use Rattle.cl_base.specs.declared.headers.Read.{Read}
+use Rattle.cl_query.specs.AnswerOf.{AnswerOf, NeedsOf}
 use Rattle.cl_rpc.specs.declared.call.Parsed.{Parsed}
 use Rattle.cl_rpc.specs.declared.out.How.TheVariants as how
 use Rattle.cl_rpc.specs.declared.out.Out.TheVariants as out
+use Rattle.cl_rpc.specs.Classes.{class_of}
+use Rattle.cl_history.specs.Given.{Given, said}
+use Rattle.cl_history.specs.Refusals.{out_of_memory}
 use Rattle.cl_core.specs.declared.core_state.Core.{Core}
+use Rattle.cl_core.specs.declared.core_state.Awaited.{Awaited}
 use Rattle.cl_core.specs.declared.event.Event.{Event}
 use Rattle.cl_core.specs.declared.event.Event.TheVariants as event
 use Rattle.cl_core.specs.declared.event.Effect.{Effect}
-use Rattle.cl_core.specs.Refusals.{out_of_memory}
-use Rattle.cl_core.specs.Legal.{IsSettled}
-use Rattle.cl_core.specs.Written.{Writes}
-use Rattle.cl_core.specs.Steps.{StepsOn, Steps}
-use Rattle.cl_core.specs.Standing.{past_of, StandsFor, IsNext, IsReady, frames_of}
+use Rattle.cl_core.specs.Steps.{StepsOn, Steps, hears, is_awaited, awaited_message}
+use Rattle.cl_core.specs.Standing.{StandsFor, IsNext, IsNextOf, WritesOn}
+use Rattle.cl_core.proofs.Dues.{said_is}
 use Rattle.cl_core.proofs.MessageStands.{message_stands}
-use Rattle.cl_core.proofs.JobStands.{same_stands, job_stands, stop_stands}
-use Rattle.cl_core.proofs.Writing.{message_writes, job_writes, stop_writes, nothing_writes}
-use Rattle.cl_core.proofs.Settling.{message_settles, job_settles, stop_settles}
+use Rattle.cl_core.proofs.JobStands.{same_stands, job_stands, need_stands, load_stands, stop_stands}
+use Rattle.cl_core.proofs.Writing.{message_writes, job_writes, need_writes, load_writes, stop_writes, nothing_writes}
 
--- a step does nothing, after the end, or goes on
-by_case : (b : Bool) (P Q R : Type 0) → (P → R) → (Q → R) → MatchBool b P Q → R
-by_case true P Q R f g m = f m
-by_case false P Q R f g m = g m
+-- ---- what is heard
 
-pub on_err : {X E : Type 0} (r : Result X E) (P : Type 0) → P → OnErr r P
-on_err (Ok x) P p = tt
-on_err (Err e) P p = p
+second : (a b : Bool) → (a && b) ≡ true → b ≡ true
+second true b e = e
+second false b e = absurd (false≢true e)
 
--- ---- the facts
+pub first : (a b : Bool) → (not a && b) ≡ true → a ≡ false
+first true b e = absurd (false≢true e)
+first false b e = refl
 
-stands_on : (messages : List Parsed) (old new : Core) (e : Event) (effects : List Effect)
-    → IsNext messages old e → StandsFor messages old → StepsOn old e new effects → StandsFor messages new
-stands_on messages old new (event.Message p) effects next s takes = message_stands messages old new p effects next s takes
-stands_on messages old new (event.Done done) effects next s c = job_stands messages old new done.job done.job.mark how.Answered (out.Answer done.answer) effects s refl c
-stands_on messages old new (event.NoMemory job) effects next s c = job_stands messages old new job (length old.journal) how.Memory (out.Error out_of_memory) effects s refl c
-stands_on messages old new (event.End e) effects next s stops = stop_stands messages old new e effects s stops
+-- while an event is heard that is no read, none is awaited
+abbrev NoRead : Event → Type 0
+NoRead (event.Loaded path read) = ⊥
+NoRead _ = Unit {0}
 
-pub step_stands : (messages : List Parsed) (old new : Core) (e : Event) (effects : List Effect)
-    → IsNext messages old e → StandsFor messages old → Steps old e new effects → StandsFor messages new
-step_stands messages old new e effects next s steps = by_case old.finished _ _ (StandsFor messages new)
-    (λ q. same_stands messages old new q.0 s)
-    (λ on. stands_on messages old new e effects next s on) steps
+none_by : (o : Option Awaited) (e : Event) → NoRead e → is_awaited o e ≡ true → o ≡ None
+none_by None e calm heard = refl
+none_by (Some a) (event.Message p) calm heard = absurd (false≢true heard)
+none_by (Some a) (event.Loaded path read) calm heard = absurd calm
+none_by (Some a) (event.Done done) calm heard = absurd (false≢true heard)
+none_by (Some a) (event.Need need) calm heard = absurd (false≢true heard)
+none_by (Some a) (event.NoMemory job) calm heard = absurd (false≢true heard)
+none_by (Some a) (event.End e) calm heard = absurd (false≢true heard)
 
--- ---- the bytes
+pub none_awaited : (old : Core) (e : Event) → NoRead e → hears old e ≡ true → old.awaited ≡ None
+none_awaited old e calm heard = none_by old.awaited e calm (second (not old.finished) (is_awaited old.awaited e) heard)
 
-writes_on : (messages : List Parsed) (old new : Core) (e : Event) (effects : List Effect) (bytes : List ℕ)
-    → IsNext messages old e → StandsFor messages old → StepsOn old e new effects
-    → Writes messages (past_of old) bytes → Writes messages (past_of new) (bytes ++ frames_of effects)
-writes_on messages old new (event.Message p) effects bytes next s takes w = message_writes messages old new p effects bytes next s takes w
-writes_on messages old new (event.Done done) effects bytes next s c w =
-    job_writes messages old new done.job done.job.mark how.Answered (out.Answer done.answer) effects bytes s (done.answer, done.valid, refl) c w
-writes_on messages old new (event.NoMemory job) effects bytes next s c w =
-    job_writes messages old new job (length old.journal) how.Memory (out.Error out_of_memory) effects bytes s refl c w
-writes_on messages old new (event.End e) effects bytes next s stops w = stop_writes messages old new e effects bytes stops w
+some_by : (o : Option Awaited) (path : List ℕ) (read : Read) → is_awaited o (event.Loaded path read) ≡ true → (a : Awaited) × (o ≡ Some a) × (bytes_eq a.path path ≡ true)
+some_by None path read heard = absurd (false≢true heard)
+some_by (Some a) path read heard = (a, refl, heard)
 
-pub step_writes : (messages : List Parsed) (old new : Core) (e : Event) (effects : List Effect) (bytes : List ℕ)
-    → IsNext messages old e → StandsFor messages old → Steps old e new effects
-    → Writes messages (past_of old) bytes → Writes messages (past_of new) (bytes ++ frames_of effects)
-step_writes messages old new e effects bytes next s steps w = by_case old.finished _ _ (Writes messages (past_of new) (bytes ++ frames_of effects))
-    (λ q. nothing_writes messages old new effects bytes q.0 q.1 w)
-    (λ on. writes_on messages old new e effects bytes next s on w) steps
+-- ---- a step
 
--- ---- one after another
+pub by_hearing : (b : Bool) (P Q R : Type 0) → MatchBool b P Q → (b ≡ true → P → R) → (Q → R) → R
+by_hearing true P Q R m f g = f refl m
+by_hearing false P Q R m f g = g m
 
-settles_on : (messages : List Parsed) (old new : Core) (e : Event) (effects : List Effect)
-    → StandsFor messages old → IsReady old e → StepsOn old e new effects → IsSettled messages (past_of old) → IsSettled messages (past_of new)
-settles_on messages old new (event.Message p) effects s ready takes settled = message_settles messages old new p effects s ready takes settled
-settles_on messages old new (event.Done done) effects s ready c settled = job_settles messages old new done.job done.job.mark how.Answered (out.Answer done.answer) effects c settled
-settles_on messages old new (event.NoMemory job) effects s ready c settled = job_settles messages old new job (length old.journal) how.Memory (out.Error out_of_memory) effects c settled
-settles_on messages old new (event.End e) effects s ready stops settled = stop_settles messages old new e effects stops settled
+next_of : (b : Bool) (N : Type 0) → MatchBool b N (Unit {0}) → b ≡ true → N
+next_of true N next e = next
+next_of false N next e = absurd (false≢true e)
 
-pub step_settles : (messages : List Parsed) (old new : Core) (e : Event) (effects : List Effect)
-    → StandsFor messages old → IsReady old e → Steps old e new effects → IsSettled messages (past_of old) → IsSettled messages (past_of new)
-step_settles messages old new e effects s ready steps settled = by_case old.finished _ _ (IsSettled messages (past_of new))
-    (λ q. subst (λ (core : Core). IsSettled messages (past_of core)) (sym q.0) settled)
-    (λ on. settles_on messages old new e effects s ready on settled) steps
+stands_on : (given : Given) (old new : Core) (e : Event) (effects : List Effect)
+    → hears old e ≡ true → IsNextOf given old e → StandsFor given old → StepsOn old e new effects → StandsFor given new
+stands_on given old new (event.Message p) effects heard next s takes = message_stands given old new (class_of p) effects (said_is given old.messages p next) s takes
+stands_on given old new (event.Loaded path read) effects heard next s c =
+    let one = some_by old.awaited path read (second (not old.finished) (is_awaited old.awaited (event.Loaded path read)) heard) in
+    load_stands given old new (awaited_message old) path read effects one.0 next s one.1 (sym (ap (λ (o : Option Awaited). unwrap_or (option_map (λ (a : Awaited). a.message) o) 0) one.1)) one.2 c
+stands_on given old new (event.Done done) effects heard next s c =
+    job_stands given old new done.job done.job.mark how.Answered (out.Answer done.answer) effects s (none_awaited old (event.Done done) tt heard) refl c
+stands_on given old new (event.Need need) effects heard next s c = need_stands given old new need.job need.path effects s (none_awaited old (event.Need need) tt heard) need.valid c
+stands_on given old new (event.NoMemory job) effects heard next s c =
+    job_stands given old new job (length old.journal) how.Memory (out.Error out_of_memory) effects s (none_awaited old (event.NoMemory job) tt heard) refl c
+stands_on given old new (event.End e) effects heard next s stops = stop_stands given old new e effects s stops
+
+pub step_stands : (given : Given) (old new : Core) (e : Event) (effects : List Effect)
+    → IsNext given old e → StandsFor given old → Steps old e new effects → StandsFor given new
+step_stands given old new e effects next s steps = by_hearing (hears old e) _ _ (StandsFor given new) steps
+    (λ heard on. stands_on given old new e effects heard (next_of (hears old e) (IsNextOf given old e) next heard) s on)
+    (λ q. same_stands given old new q.0 s)
+
+writes_on : (given : Given) (old new : Core) (e : Event) (effects : List Effect)
+    → IsNextOf given old e → StandsFor given old → StepsOn old e new effects → WritesOn given old new effects
+writes_on given old new (event.Message p) effects next s takes = message_writes given old new (class_of p) effects (said_is given old.messages p next) s takes
+writes_on given old new (event.Loaded path read) effects next s c = load_writes given old new (awaited_message old) path read effects c
+writes_on given old new (event.Done done) effects next s c =
+    job_writes given old new done.job done.job.mark how.Answered (out.Answer done.answer) effects s refl (done.answer, done.valid, refl) c
+writes_on given old new (event.Need need) effects next s c = need_writes given old new need.job need.path effects c
+writes_on given old new (event.NoMemory job) effects next s c = job_writes given old new job (length old.journal) how.Memory (out.Error out_of_memory) effects s tt refl c
+writes_on given old new (event.End e) effects next s stops = stop_writes given old new e effects stops
+
+pub step_writes : (given : Given) (old new : Core) (e : Event) (effects : List Effect)
+    → IsNext given old e → StandsFor given old → Steps old e new effects → WritesOn given old new effects
+step_writes given old new e effects next s steps = by_hearing (hears old e) _ _ (WritesOn given old new effects) steps
+    (λ heard on. writes_on given old new e effects (next_of (hears old e) (IsNextOf given old e) next heard) s on)
+    (λ q. nothing_writes given old new effects q.0 q.1)

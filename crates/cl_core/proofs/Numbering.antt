@@ -1,47 +1,31 @@
 -- The messages of those that wait were received.
-use Rattle.std.proofs.Common.{◌≡◌, ⊎_elim, ℕ, ℤ, ◌<◌, ◌≤◌, ◌+◌, List, [], ◌∷◌, ◌++◌, Bool, true, false, sym, ap, subst, arith, cond}
-use Rattle.std.specs.Prelude.{Option, Some, None, nat_eq, not, filter}
+use Rattle.std.proofs.Common.{◌≡◌, ◌⊎◌, ⊎_elim, ℕ, ℤ, ◌<◌, ◌≤◌, ◌+◌, List, [], ◌∷◌, ◌++◌, length, Bool, true, false, refl, sym, ap, subst, arith, cond}
+use Rattle.std.specs.Prelude.{Option, Some, None, nat_eq, not, filter, map, if◌then◌else◌}
 use Rattle.std.specs.List.{AllByRecursion}
-use Rattle.std.specs.Bool.{MatchBool}
+use Rattle.cl_base.specs.declared.query.Query.{Query}
+use Rattle.cl_headers.specs.Headers.{Headers}
 use Rattle.cl_store.specs.declared.docs.Doc.{Doc}
 use Rattle.cl_store.specs.Docs.{doc_at}
-use Rattle.cl_query.specs.declared.job.Job.{Job}
 use Rattle.cl_rpc.specs.declared.id.Id.{Id}
-use Rattle.cl_rpc.specs.declared.call.Call.{Call}
-use Rattle.cl_rpc.specs.declared.call.Call.TheVariants as call
-use Rattle.cl_rpc.specs.declared.call.Parsed.{Parsed}
-use Rattle.cl_rpc.specs.declared.call.Parsed.TheVariants as parsed
 use Rattle.cl_rpc.specs.declared.out.How.{How}
 use Rattle.cl_rpc.specs.declared.out.Out.{Out}
+use Rattle.cl_rpc.specs.Classes.{Class, queries, class_of}
+use Rattle.cl_query.specs.declared.job.Job.{Job}
 use Rattle.cl_core.specs.declared.core_state.State.{State}
 use Rattle.cl_core.specs.declared.event.Event.{Event}
 use Rattle.cl_core.specs.declared.event.Event.TheVariants as event
 use Rattle.cl_core.specs.declared.event.Effect.{Effect}
 use Rattle.cl_core.specs.declared.waiting.Waiting.{Waiting}
-use Rattle.cl_core.specs.Deciding.{waiting_for, started_if, started_by, core_refusal}
-use Rattle.cl_core.specs.Steps.{IsAsBefore, Steps, StepsOn, Takes, Completes, left_by}
+use Rattle.cl_core.specs.Waiting.{number_of}
+use Rattle.cl_core.specs.Deciding.{waiting_for, started_if, started_by, core_refusal, left_by}
+use Rattle.cl_core.specs.Steps.{Steps, StepsOn, Takes, Completes, StartsAgain, Awaits, again, begun_again, hears}
 use Rattle.cl_core.specs.Numbered.{IsNumbered}
 use Rattle.cl_core.proofs.Asking.{all_left}
+use Rattle.cl_core.proofs.JobStands.{by_known}
+use Rattle.cl_core.proofs.Kept.{by_hearing}
 
 abbrev pub Below : ℕ → List Waiting → Type 0
 Below n ws = AllByRecursion (λ (w : Waiting). w.job.message < n) ws
-
-abbrev number_in : List Waiting → ℕ
-number_in [] = 0
-number_in (w ∷ ws) = w.job.message
-
-pub started_number : (core : State) (i : Id) (path : List ℕ) (o : Option Doc) (w : Waiting) → w ∷ [] ≡ waiting_for core i path o → w.job.message ≡ core.messages
-started_number core i path None w e = absurd (cc)
-started_number core i path (Some doc) w e = ap number_in e
-
-id_in : Id → List Waiting → Id
-id_in i [] = i
-id_in i (w ∷ ws) = w.id
-
-pub started_id : (core : State) (i : Id) (path : List ℕ) (o : Option Doc) (w : Waiting) → w ∷ [] ≡ waiting_for core i path o → w.id ≡ i
-unfolding id_in
-started_id core i path None w e = absurd (cc)
-started_id core i path (Some doc) w e = ap (id_in i) e
 
 raised : (n m : ℕ) (ws : List Waiting) → n ≤ m → Below n ws → Below m ws
 raised n m [] le below = tt
@@ -59,61 +43,63 @@ joined : (n : ℕ) (us ws : List Waiting) → Below n us → Below n ws → Belo
 joined n [] ws h k = k
 joined n (u ∷ us) ws h k = (h.0, joined n us ws h.1 k)
 
+again_by : (b : Bool) (n : ℕ) (w : Waiting) (number mark : ℕ) (headers : Headers) → w.job.message < n → (if b then record w { job = again number mark headers w.job } else w).job.message < n
+again_by true n w number mark headers lt = lt
+again_by false n w number mark headers lt = lt
+
+below_again : (n m number mark : ℕ) (headers : Headers) (ws : List Waiting) → Below n ws → Below n (begun_again m number mark headers ws)
+below_again n m number mark headers [] below = tt
+below_again n m number mark headers (w ∷ ws) below = (again_by (nat_eq w.job.message m) n w number mark headers below.0, below_again n m number mark headers ws below.1)
+
 -- ---- a message
 
-waiting_below : (core : State) (i : Id) (path : List ℕ) (o : Option Doc) → Below (core.messages + 1) (waiting_for core i path o)
-waiting_below core i path None = tt
-waiting_below core i path (Some doc) = (omega arith, tt)
+waiting_below : (core : State) (i : Id) (query : Query) (path : List ℕ) (o : Option Doc) → Below (core.messages + 1) (waiting_for core i query path o)
+waiting_below core i query path None = tt
+waiting_below core i query path (Some doc) = (omega arith, tt)
 
-started_below_if : (core : State) (o : Option ℤ) (i : Id) (c : Call) → Below (core.messages + 1) (started_if core o i c)
-started_below_if core (Some code) i c = tt
-started_below_if core None i (call.Symbols path) = waiting_below core i path (doc_at core.docs path)
-started_below_if core None i call.Initialize = tt
-started_below_if core None i call.Shutdown = tt
-started_below_if core None i call.Exit = tt
-started_below_if core None i (call.DidOpen path version text) = tt
-started_below_if core None i (call.DidChange path version text) = tt
-started_below_if core None i (call.DidClose path) = tt
-started_below_if core None i (call.Watched paths) = tt
-started_below_if core None i (call.Cancel j) = tt
-started_below_if core None i call.Unknown = tt
-started_below_if core None i (call.BadParams b) = tt
+query_below : (core : State) (o : Option ℤ) (i : Id) (query : Query) (path : List ℕ) → Below (core.messages + 1) (started_if core o (queries i query path))
+query_below core (Some code) i query path = tt
+query_below core None i query path = waiting_below core i query path (doc_at core.docs path)
 
-started_below : (core : State) (p : Parsed) → Below (core.messages + 1) (started_by core p)
-started_below core (parsed.Request i c) = started_below_if core (core_refusal core i c) i c
-started_below core (parsed.Notification c) = tt
-started_below core (parsed.Refused i code) = tt
-started_below core parsed.Ignored = tt
+none_below : (core : State) (n : ℕ) (o : Option ℤ) (k : Class) → started_if core None k ≡ [] → Below n (started_if core o k)
+none_below core n (Some code) k none = tt
+none_below core n None k none = subst (Below n) (sym none) tt
+
+started_below : (core : State) (k : Class) → Below (core.messages + 1) (started_by core k)
+started_below core (queries i query path) = query_below core (core_refusal core (queries i query path)) i query path
+started_below core k = none_below core (core.messages + 1) (core_refusal core k) k refl
 
 numbered_as : (new : State) (n : ℕ) (ws : List Waiting) → new.messages ≡ n → new.pending ≡ ws → Below n ws → IsNumbered new
 numbered_as new n ws e f below = subst (λ (m : ℕ). Below m new.pending) (sym e) (subst (Below n) (sym f) below)
 
-message_numbered : (old new : State) (p : Parsed) (effects : List Effect) → Takes old p new effects → IsNumbered old → IsNumbered new
-message_numbered old new p effects takes numbered =
+message_numbered : (old new : State) (k : Class) (effects : List Effect) → Takes old k new effects → IsNumbered old → IsNumbered new
+message_numbered old new k effects takes numbered =
     numbered_as new (old.messages + 1) _ takes.messages takes.pending
-    (joined (old.messages + 1) (left_by old p) (started_by old p) (raised old.messages (old.messages + 1) (left_by old p) (omega arith) (all_left (λ (w : Waiting). w.job.message < old.messages) old p numbered)) (started_below old p))
+    (joined (old.messages + 1) (left_by old k) (started_by old k)
+    (raised old.messages (old.messages + 1) (left_by old k) (omega arith) (all_left (λ (w : Waiting). w.job.message < old.messages) old k numbered)) (started_below old k))
 
 -- ---- a step
 
 job_numbered : (old new : State) (job : Job) (mark : ℕ) (h : How) (o : Out) (effects : List Effect) → Completes old job mark h o new effects → IsNumbered old → IsNumbered new
 job_numbered old new job mark h o effects c numbered = ⊎_elim
-    (λ r. numbered_as new old.messages _ r.messages r.pending (kept (λ w. not (nat_eq w.job.message job.message)) old.messages old.pending numbered))
-    (λ q. subst IsNumbered (sym q.1) numbered) c
+    (λ r. subst IsNumbered (sym r.new_is) (kept (λ w. not (nat_eq w.job.message job.message)) old.messages old.pending numbered))
+    (λ q. subst IsNumbered (sym q.same) numbered) c
 
 numbered_on : (old new : State) (e : Event) (effects : List Effect) → StepsOn old e new effects → IsNumbered old → IsNumbered new
-numbered_on old new (event.Message p) effects takes numbered = message_numbered old new p effects takes numbered
+numbered_on old new (event.Message p) effects takes numbered = message_numbered old new (class_of p) effects takes numbered
+numbered_on old new (event.Loaded path read) effects c numbered = ⊎_elim
+    (λ r. subst IsNumbered (sym r.new_is) (below_again old.messages _ old.jobs (length old.journal + 1) new.headers old.pending numbered))
+    (λ q. subst IsNumbered (sym q.same) numbered) c
 numbered_on old new (event.Done done) effects c numbered = job_numbered old new done.job _ _ _ effects c numbered
+numbered_on old new (event.Need need) effects c numbered = ⊎_elim
+    (λ r. by_known _ (StartsAgain old need.job new effects) (Awaits old need.job need.path new effects) (IsNumbered new) r.so
+    (λ a. subst IsNumbered (sym a.new_is) (below_again old.messages need.job.message old.jobs (length old.journal) old.headers old.pending numbered))
+    (λ e a. subst IsNumbered (sym a.new_is) numbered))
+    (λ q. subst IsNumbered (sym q.same) numbered) c
 numbered_on old new (event.NoMemory job) effects c numbered = job_numbered old new job _ _ _ effects c numbered
 numbered_on old new (event.End e) effects stops numbered = subst IsNumbered (sym stops.same) numbered
 
-by_case : (b : Bool) (A B C : Type 0) → MatchBool b A B → (A → C) → (B → C) → C
-by_case true A B C m f g = f m
-by_case false A B C m f g = g m
-
 pub step_numbered : (old new : State) (e : Event) (effects : List Effect) → Steps old e new effects → IsNumbered old → IsNumbered new
 step_numbered old new e effects steps numbered =
-    by_case old.finished ((new ≡ old) × (effects ≡ [])) (StepsOn old e new effects) (IsNumbered new) steps
-    (λ q. subst IsNumbered (sym q.0) numbered) (λ on. numbered_on old new e effects on numbered)
-
-pub as_before_numbered : (old new : State) → IsAsBefore old new → IsNumbered old → IsNumbered new
-as_before_numbered old new same numbered = numbered_as new old.messages old.pending same.messages same.pending numbered
+    by_hearing (hears old e) (StepsOn old e new effects) ((new ≡ old) × (effects ≡ [])) (IsNumbered new) steps
+    (λ heard on. numbered_on old new e effects on numbered) (λ q. subst IsNumbered (sym q.0) numbered)

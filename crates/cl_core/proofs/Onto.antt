@@ -1,10 +1,12 @@
 -- Entries put onto a past.
-use Rattle.std.proofs.Common.{◌≡◌, ℕ, ◌+◌, List, [], ◌∷◌, ◌++◌, reverse, length, map, ap, sym, ◌∙◌, refl, arith, append-nil, append_assoc}
+use Rattle.std.proofs.Common.{◌≡◌, ℕ, ◌+◌, ◌≤◌, List, [], ◌∷◌, ◌++◌, reverse, length, map, ap, sym, ◌∙◌, refl, arith, append-nil, append_assoc, false, nat_eq, eq-eqb}
+use Rattle.std.proofs.lemmas.Bool.{ne_eqb}
 use Rattle.std.proofs.lemmas.List.{reverse-append}
 use Rattle.cl_rpc.specs.declared.out.How.{How}
 use Rattle.cl_rpc.specs.declared.out.Reply.{Reply}
-use Rattle.cl_core.specs.declared.event.Entry.{Entry}
-use Rattle.cl_core.specs.declared.event.Entry.TheVariants as entry
+use Rattle.cl_history.specs.declared.entry.Entry.{Entry}
+use Rattle.cl_history.specs.declared.entry.Entry.TheVariants as entry
+use Rattle.cl_history.specs.Headers.{past_at}
 use Rattle.cl_core.specs.Deciding.{entry_of}
 
 -- the entries, the oldest first, onto a past
@@ -26,3 +28,16 @@ pub unchanged : {X : Type 0} (f : List Entry → X) → ((m mark : ℕ) (h : How
     → (rs : List Reply) (past : List Entry) → f (onto (map entry_of rs) past) ≡ f past
 unchanged f same [] past = refl
 unchanged f same (r ∷ rs) past = unchanged f same rs (entry_of r ∷ past) ∙ same r.message r.mark r.how past
+
+-- the past at a mark stays as more comes
+pub past_kept_one : (e : Entry) (past : List Entry) (mark : ℕ) → mark ≤ length past → past_at (e ∷ past) mark ≡ past_at past mark
+past_kept_one e past mark le =
+    let other : nat_eq (length (e ∷ past)) mark ≡ false = ne_eqb (length (e ∷ past)) mark (λ same. omega arith) in rw other refl
+
+pub past_kept : (xs past : List Entry) (mark : ℕ) → mark ≤ length past → past_at (onto xs past) mark ≡ past_at past mark
+past_kept [] past mark le = refl
+past_kept (x ∷ xs) past mark le = past_kept xs (x ∷ past) mark (omega arith) ∙ past_kept_one x past mark le
+
+pub past_whole : (past : List Entry) → past_at past (length past) ≡ past
+past_whole [] = refl
+past_whole (e ∷ past) = rw (eq-eqb (length (e ∷ past)) (length (e ∷ past)) refl) refl

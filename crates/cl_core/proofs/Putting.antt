@@ -17,7 +17,7 @@ use Rattle.std.specs.Set.{remove_key}
 use Rattle.std.specs.BTreeMap.{BTreeMap, UpdatesBy, get, get_by, is_at}
 use Rattle.std.specs.BTreeSet.{BTreeSet, insert_key}
 use Rattle.cl_core.specs.declared.index.Documents.{Documents}
-use Rattle.cl_core.specs.History.{without}
+use Rattle.cl_history.specs.History.{without}
 use Rattle.cl_core.specs.Indexes.{messages_on}
 
 -- ---- the test by bytes

@@ -1,35 +1,33 @@
 -- The requests that are pending after the replies to a message.
 use Rattle.std.proofs.Common.{◌≡◌, ℕ, ℤ, ◌+◌, ◌<◌, List, [], ◌∷◌, ◌++◌, map, filter, length, ap, sym, ◌∙◌, refl, arith, append-nil, Bool, true, false, Some, None, Option}
-use Rattle.std.specs.Prelude.{◌&&◌, ◌||◌, not, is_some, nat_eq, if◌then◌else◌, slice_get}
-use Rattle.std.specs.Str.{bytes_eq}
+use Rattle.std.specs.Prelude.{◌&&◌, ◌||◌, not, is_some, nat_eq, if◌then◌else◌, option_map}
 use Rattle.std.specs.List.{list_any, AllByRecursion}
 use Rattle.std.proofs.lemmas.Bool.{eqb-true, eq-eqb, ne_eqb, or_right, or_left, false≢true, false_from_ne_true}
 use Rattle.std.proofs.Math.Bool.{and-true, and-false}
 use Rattle.std.proofs.lemmas.List.{map-append}
 use Rattle.std.proofs.lemmas.List.Elements.{filter-append}
+use Rattle.cl_base.specs.declared.query.Query.{Query}
 use Rattle.cl_store.specs.declared.docs.Doc.{Doc}
 use Rattle.cl_store.specs.Docs.{doc_at}
 use Rattle.cl_rpc.specs.declared.id.Id.{Id}
-use Rattle.cl_rpc.specs.declared.call.Call.{Call}
-use Rattle.cl_rpc.specs.declared.call.Call.TheVariants as call
-use Rattle.cl_rpc.specs.declared.call.Parsed.{Parsed}
-use Rattle.cl_rpc.specs.declared.call.Parsed.TheVariants as parsed
 use Rattle.cl_rpc.specs.declared.out.How.{How}
-use Rattle.cl_rpc.specs.declared.out.How.TheVariants as how
 use Rattle.cl_rpc.specs.declared.out.Reply.{Reply}
+use Rattle.cl_rpc.specs.Classes.{Class, initialises, shuts_down, queries, unknown, bad_params, invalid, opens, changes, closes, cancels, watched, exits, dropped}
+use Rattle.cl_history.specs.declared.entry.Entry.{Entry}
+use Rattle.cl_history.specs.declared.entry.Entry.TheVariants as entry
+use Rattle.cl_history.specs.Given.{Given, said, received}
+use Rattle.cl_history.specs.Refusals.{is_open, document_of}
+use Rattle.cl_history.specs.History.{End, is_meant, is_query, pending, without}
+use Rattle.cl_history.specs.Legal.{how_ended}
+use Rattle.cl_history.proofs.Accepting.{open_if_accepted}
 use Rattle.cl_core.specs.declared.core_state.Core.{Core}
-use Rattle.cl_core.specs.declared.event.Entry.{Entry}
-use Rattle.cl_core.specs.declared.event.Entry.TheVariants as entry
 use Rattle.cl_core.specs.declared.waiting.Waiting.{Waiting}
-use Rattle.cl_core.specs.Waiting.{same_id, has_id}
-use Rattle.cl_core.specs.Refusals.{is_open, document_of}
-use Rattle.cl_core.specs.History.{said, received, pending, without, is_query, asks_by, asks_on}
-use Rattle.cl_core.specs.Deciding.{texts_of, core_refusal, entry_of, ended, ended_waiting, left_waiting, how_ended, replies_to_request, replies_of, waiting_for, started_if}
+use Rattle.cl_core.specs.Waiting.{has_id, number_of, class_of_waiting}
+use Rattle.cl_core.specs.Deciding.{texts_of, core_refusal, entry_of, ended, ends_by, meant_by, others_than, replies_by, replies_of, waiting_for, started_if}
 use Rattle.cl_core.specs.Steps.{pending_after}
 use Rattle.cl_core.specs.Standing.{Asks, StandsFor, past_of}
 use Rattle.cl_core.proofs.Onto.{onto}
-use Rattle.cl_core.proofs.Accepting.{open_if_accepted}
-use Rattle.cl_core.proofs.Dues.{said_is, number_of, same_filter, is_some-text}
+use Rattle.cl_core.proofs.Dues.{same_filter}
 
 -- ---- a list of numbers without some
 
@@ -91,18 +89,18 @@ without_passed q ns =
 abbrev pub message_of : Reply → ℕ
 message_of r = r.message
 
-pub pending_onto : (messages : List Parsed) (rs : List Reply) (past : List Entry) → pending messages (onto (map entry_of rs) past) ≡ without_all (map message_of rs) (pending messages past)
-pending_onto messages [] past = refl
-pending_onto messages (r ∷ rs) past = pending_onto messages rs (entry_of r ∷ past)
+pub pending_onto : (given : Given) (rs : List Reply) (past : List Entry) → pending given (onto (map entry_of rs) past) ≡ without_all (map message_of rs) (pending given past)
+pending_onto given [] past = refl
+pending_onto given (r ∷ rs) past = pending_onto given rs (entry_of r ∷ past)
 
 -- the next message's number isn't among theirs
-not_waiting : (messages : List Parsed) (past : List Entry) (n : ℕ) → n ≡ received past → (ws : List Waiting) → AllByRecursion (Asks messages past) ws
+not_waiting : (given : Given) (past : List Entry) (n : ℕ) → n ≡ received past → (ws : List Waiting) → AllByRecursion (Asks given past) ws
     → without n (map number_of ws) ≡ map number_of ws
-not_waiting messages past n count [] all = refl
-not_waiting messages past n count (w ∷ ws) all =
+not_waiting given past n count [] all = refl
+not_waiting given past n count (w ∷ ws) all =
     let below : w.job.message < received past = all.0.received_so in
     let other : nat_eq w.job.message n ≡ false = ne_eqb w.job.message n (λ e. omega arith) in
-    rw (other, not_waiting messages past n count ws all.1) refl
+    rw (other, not_waiting given past n count ws all.1) refl
 
 without_newest : (b : Bool) (n : ℕ) (ns : List ℕ) → without n ns ≡ ns → without n (ns ++ (if b then n ∷ [] else [])) ≡ ns
 without_newest true n ns e = filter-append (λ m. not (nat_eq m n)) ns (n ∷ []) ∙ rw (eq-eqb n n refl, e) (append-nil ns)
@@ -115,93 +113,95 @@ replied_at_once : (b : Bool) (n : ℕ) (ws : List Waiting) (ns : List ℕ) → w
     → map number_of (ws ++ []) ≡ without n (ns ++ (if b then n ∷ [] else []))
 replied_at_once b n ws ns new e = ap (map number_of) (append-nil ws) ∙ e ∙ sym (without_newest b n ns new)
 
-started : (core : Core) (ws : List Waiting) (ns : List ℕ) (i : Id) (path : List ℕ) (o : Option Doc) → map number_of ws ≡ ns → is_some o ≡ true
-    → map number_of (ws ++ waiting_for core i path o) ≡ ns ++ core.messages ∷ []
-started core ws ns i path None e stands = absurd (false≢true stands)
-started core ws ns i path (Some doc) e stands =
-    map-append number_of ws (waiting_for core i path (Some doc)) ∙ ap (λ (ms : List ℕ). ms ++ core.messages ∷ []) e
+started : (core : Core) (ws : List Waiting) (ns : List ℕ) (i : Id) (query : Query) (path : List ℕ) (o : Option Doc) → map number_of ws ≡ ns → is_some o ≡ true
+    → map number_of (ws ++ waiting_for core i query path o) ≡ ns ++ core.messages ∷ []
+started core ws ns i query path None e stands = absurd (false≢true stands)
+started core ws ns i query path (Some doc) e stands =
+    map-append number_of ws (waiting_for core i query path (Some doc)) ∙ ap (λ (ms : List ℕ). ms ++ core.messages ∷ []) e
 
-after_request : (core : Core) (ws : List Waiting) (ns : List ℕ) (mark : ℕ) (i : Id) (code : Option ℤ) (c : Call)
-    → without core.messages ns ≡ ns → map number_of ws ≡ ns → (code ≡ None → is_open (texts_of core.docs) (document_of c) ≡ true)
-    → map number_of (ws ++ started_if core code i c) ≡ without_all (map message_of (replies_to_request core.messages mark i code c)) (ns ++ (if is_query (parsed.Request i c) then core.messages ∷ [] else []))
-after_request core ws ns mark i (Some code) c new e accepted = replied_at_once (is_query (parsed.Request i c)) core.messages ws ns new e
-after_request core ws ns mark i None call.Initialize new e accepted = replied_at_once false core.messages ws ns new e
-after_request core ws ns mark i None call.Shutdown new e accepted = replied_at_once false core.messages ws ns new e
-after_request core ws ns mark i None call.Exit new e accepted = none_started ws ns e
-after_request core ws ns mark i None (call.DidOpen path version text) new e accepted = none_started ws ns e
-after_request core ws ns mark i None (call.DidChange path version text) new e accepted = none_started ws ns e
-after_request core ws ns mark i None (call.DidClose path) new e accepted = none_started ws ns e
-after_request core ws ns mark i None (call.Watched paths) new e accepted = none_started ws ns e
-after_request core ws ns mark i None (call.Cancel j) new e accepted = none_started ws ns e
-after_request core ws ns mark i None (call.Symbols path) new e accepted = started core ws ns i path (doc_at core.docs path) e (sym (is_some-text (doc_at core.docs path)) ∙ accepted refl)
-after_request core ws ns mark i None call.Unknown new e accepted = none_started ws ns e
-after_request core ws ns mark i None (call.BadParams b) new e accepted = none_started ws ns e
+-- after a request, by its refusal
+abbrev After : Core → ℕ → Option ℤ → Class → Type 0
+After core mark o k = map number_of (core.pending ++ started_if core o k) ≡ without_all (map message_of (replies_by core mark o k)) (map number_of core.pending ++ (if is_query k then core.messages ∷ [] else []))
 
--- the requests that a notification ends are those that no longer wait
+abbrev IsNew : Core → Type 0
+IsNew core = without core.messages (map number_of core.pending) ≡ map number_of core.pending
+
+after_initialises : (core : Core) (mark : ℕ) (o : Option ℤ) (i : Id) → IsNew core → After core mark o (initialises i)
+after_initialises core mark (Some code) i new = replied_at_once false core.messages core.pending (map number_of core.pending) new refl
+after_initialises core mark None i new = replied_at_once false core.messages core.pending (map number_of core.pending) new refl
+
+after_shuts_down : (core : Core) (mark : ℕ) (o : Option ℤ) (i : Id) → IsNew core → After core mark o (shuts_down i)
+after_shuts_down core mark (Some code) i new = replied_at_once false core.messages core.pending (map number_of core.pending) new refl
+after_shuts_down core mark None i new = replied_at_once false core.messages core.pending (map number_of core.pending) new refl
+
+is_some-text : (o : Option Doc) → is_some (option_map (λ (d : Doc). d.text) o) ≡ is_some o
+is_some-text None = refl
+is_some-text (Some d) = refl
+
+after_query : (core : Core) (mark : ℕ) (o : Option ℤ) (i : Id) (query : Query) (path : List ℕ) → IsNew core → (o ≡ None → is_open (texts_of core.docs) (Some path) ≡ true)
+    → After core mark o (queries i query path)
+after_query core mark (Some code) i query path new accepted = replied_at_once true core.messages core.pending (map number_of core.pending) new refl
+after_query core mark None i query path new accepted =
+    started core core.pending (map number_of core.pending) i query path (doc_at core.docs path) refl (sym (is_some-text (doc_at core.docs path)) ∙ accepted refl)
+
+after_unknown : (core : Core) (mark : ℕ) (o : Option ℤ) (i : Id) → IsNew core → After core mark o (unknown i)
+after_unknown core mark (Some code) i new = replied_at_once false core.messages core.pending (map number_of core.pending) new refl
+after_unknown core mark None i new = none_started core.pending (map number_of core.pending) refl
+
+after_bad : (core : Core) (mark : ℕ) (o : Option ℤ) (i : Id) (b : Bool) → IsNew core → After core mark o (bad_params i b)
+after_bad core mark (Some code) i b new = replied_at_once false core.messages core.pending (map number_of core.pending) new refl
+after_bad core mark None i b new = none_started core.pending (map number_of core.pending) refl
+
+-- the requests that a message ends are those that no longer wait
 messages_ended : (mark : ℕ) (h : How) (ws : List Waiting) → map message_of (ended mark h ws) ≡ map number_of ws
 messages_ended mark h [] = refl
 messages_ended mark h (w ∷ ws) = ap (λ (ns : List ℕ). w.job.message ∷ ns) (messages_ended (mark + 1) h ws)
 
-after_ended : (messages : List Parsed) (core : Core) (f : Waiting → Bool) (g : Parsed → Bool) (mark : ℕ) (h : How)
-    → ((w : Waiting) → f w ≡ g (parsed.Request w.id (call.Symbols w.job.path))) → StandsFor messages core
-    → map number_of (filter (λ w. not (f w)) core.pending) ≡ without_all (map message_of (ended mark h (filter f core.pending))) (map number_of core.pending)
-after_ended messages core f g mark h same stands =
+after_meant : (given : Given) (core : Core) (mark : ℕ) (h : How) (o : Option End) → StandsFor given core
+    → map number_of (others_than o core.pending) ≡ without_all (map message_of (ended mark h (meant_by o core.pending))) (map number_of core.pending)
+after_meant given core mark h None stands = refl
+after_meant given core mark h (Some e) stands =
     let ws = core.pending in
-    same_filter messages (past_of core) (λ w. not (f w)) (λ p. not (g p)) (λ w. ap not (same w)) ws stands.asks
-    ∙ sym (without_passed (λ n. g (said messages n)) (map number_of ws))
-    ∙ ap (λ (ms : List ℕ). without_all ms (map number_of ws)) (sym (messages_ended mark h (filter f ws) ∙ same_filter messages (past_of core) f g same ws stands.asks))
+    same_filter given (past_of core) (λ w. not (is_meant e (class_of_waiting w))) (λ k. not (is_meant e k)) (λ w. refl) ws stands.asks
+    ∙ sym (without_passed (λ n. is_meant e (said given n)) (map number_of ws))
+    ∙ ap (λ (ms : List ℕ). without_all ms (map number_of ws))
+    (sym (messages_ended mark h (meant_by (Some e) ws) ∙ same_filter given (past_of core) (λ w. is_meant e (class_of_waiting w)) (is_meant e) (λ w. refl) ws stands.asks))
 
-after_if : (b : Bool) (mark : ℕ) (h : How) (some left all : List Waiting) → map number_of left ≡ without_all (map message_of (ended mark h some)) (map number_of all)
-    → map number_of (if b then left else all) ≡ without_all (map message_of (ended mark h (if b then some else []))) (map number_of all)
-after_if true mark h some left all e = e
-after_if false mark h some left all e = refl
+after_notice : (given : Given) (core : Core) (mark : ℕ) (k : Class) → StandsFor given core
+    → map number_of (others_than (ends_by core k) core.pending ++ []) ≡ without_all (map message_of (ended mark (how_ended k) (meant_by (ends_by core k) core.pending))) (map number_of core.pending ++ [])
+after_notice given core mark k stands =
+    ap (map number_of) (append-nil (others_than (ends_by core k) core.pending)) ∙ after_meant given core mark (how_ended k) (ends_by core k) stands
+    ∙ ap (without_all (map message_of (ended mark (how_ended k) (meant_by (ends_by core k) core.pending)))) (sym (append-nil (map number_of core.pending)))
 
-after_notice : (messages : List Parsed) (core : Core) (c : Call) (mark : ℕ) → StandsFor messages core
-    → map number_of (left_waiting core c) ≡ without_all (map message_of (ended mark (how_ended c) (ended_waiting core c))) (map number_of core.pending)
-after_notice messages core call.Initialize mark stands = refl
-after_notice messages core call.Shutdown mark stands = refl
-after_notice messages core call.Exit mark stands = refl
-after_notice messages core (call.DidOpen path version text) mark stands =
-    after_ended messages core (λ w. bytes_eq w.job.path path) (asks_on path) mark how.Modified (λ w. refl) stands
-after_notice messages core (call.DidChange path version None) mark stands = refl
-after_notice messages core (call.DidChange path version (Some text)) mark stands =
-    after_if (is_some (doc_at core.docs path)) mark how.Modified (filter (λ w. bytes_eq w.job.path path) core.pending)
-    (filter (λ w. not (bytes_eq w.job.path path)) core.pending) core.pending
-    (after_ended messages core (λ w. bytes_eq w.job.path path) (asks_on path) mark how.Modified (λ w. refl) stands)
-after_notice messages core (call.DidClose path) mark stands = refl
-after_notice messages core (call.Watched paths) mark stands = refl
-after_notice messages core (call.Cancel i) mark stands =
-    after_ended messages core (λ w. same_id i w.id) (asks_by i) mark how.Cancelled (λ w. refl) stands
-after_notice messages core (call.Symbols path) mark stands = refl
-after_notice messages core call.Unknown mark stands = refl
-after_notice messages core (call.BadParams b) mark stands = refl
-
-if_initialised : (b : Bool) (rs : List Reply) (left ws : List Waiting) → map number_of left ≡ without_all (map message_of rs) (map number_of ws)
-    → map number_of ((if b then left else ws) ++ []) ≡ without_all (map message_of (if b then rs else [])) (map number_of ws ++ [])
-if_initialised true rs left ws e = ap (map number_of) (append-nil left) ∙ e ∙ ap (without_all (map message_of rs)) (sym (append-nil (map number_of ws)))
-if_initialised false rs left ws e = none_started ws (map number_of ws) refl
-
-after_message : (messages : List Parsed) (core : Core) (p : Parsed) → StandsFor messages core
-    → map number_of (pending_after core p)
-    ≡ without_all (map message_of (replies_of core p)) (map number_of core.pending ++ (if is_query p then core.messages ∷ [] else []))
-after_message messages core (parsed.Request i c) stands =
-    after_request core core.pending (map number_of core.pending) (length core.journal + 1) i (core_refusal core i c) c
-    (not_waiting messages (past_of core) core.messages stands.count core.pending stands.asks) refl
-    (open_if_accepted core.initialised core.shut_down (list_any (has_id i) core.pending) (is_open (texts_of core.docs) (document_of c)) c)
-after_message messages core (parsed.Notification c) stands =
-    if_initialised core.initialised (ended (length core.journal + 1) (how_ended c) (ended_waiting core c)) (left_waiting core c) core.pending
-    (after_notice messages core c (length core.journal + 1) stands)
-after_message messages core parsed.Ignored stands = none_started core.pending (map number_of core.pending) refl
-after_message messages core (parsed.Refused i code) stands =
-    replied_at_once false core.messages core.pending (map number_of core.pending)
-    (not_waiting messages (past_of core) core.messages stands.count core.pending stands.asks) refl
+after_message : (given : Given) (core : Core) (k : Class) → StandsFor given core
+    → map number_of (pending_after core k) ≡ without_all (map message_of (replies_of core k)) (map number_of core.pending ++ (if is_query k then core.messages ∷ [] else []))
+after_message given core k stands =
+    by_class k
+  where
+    new : IsNew core
+    new = not_waiting given (past_of core) core.messages stands.count core.pending stands.asks
+    by_class : (k : Class) → map number_of (pending_after core k) ≡ without_all (map message_of (replies_of core k)) (map number_of core.pending ++ (if is_query k then core.messages ∷ [] else []))
+    by_class (initialises i) = after_initialises core (length core.journal + 1) (core_refusal core (initialises i)) i new
+    by_class (shuts_down i) = after_shuts_down core (length core.journal + 1) (core_refusal core (shuts_down i)) i new
+    by_class (queries i query path) = after_query core (length core.journal + 1) (core_refusal core (queries i query path)) i query path new
+        (open_if_accepted core.initialised core.shut_down (list_any (has_id i) core.pending) (is_open (texts_of core.docs) (Some path)) (queries i query path))
+    by_class (unknown i) = after_unknown core (length core.journal + 1) (core_refusal core (unknown i)) i new
+    by_class (bad_params i b) = after_bad core (length core.journal + 1) (core_refusal core (bad_params i b)) i b new
+    by_class (invalid i code) = replied_at_once false core.messages core.pending (map number_of core.pending) new refl
+    by_class (opens path version text) = after_notice given core (length core.journal + 1) (opens path version text) stands
+    by_class (changes path version text) = after_notice given core (length core.journal + 1) (changes path version text) stands
+    by_class (closes path) = after_notice given core (length core.journal + 1) (closes path) stands
+    by_class (cancels i) = after_notice given core (length core.journal + 1) (cancels i) stands
+    by_class (watched paths) = after_notice given core (length core.journal + 1) (watched paths) stands
+    by_class exits = after_notice given core (length core.journal + 1) exits stands
+    by_class dropped = after_notice given core (length core.journal + 1) dropped stands
 
 -- the requests that wait after a message are those that are pending after its replies
-pub still_pending : (messages : List Parsed) (core : Core) (p : Parsed) → slice_get messages core.messages ≡ Some p → StandsFor messages core
-    → map number_of (pending_after core p) ≡ pending messages (onto (map entry_of (replies_of core p)) (entry.In core.messages ∷ past_of core))
-still_pending messages core p is stands =
-    let replied = without_all (map message_of (replies_of core p)) in
-    after_message messages core p stands
-    ∙ ap (λ (ns : List ℕ). replied (ns ++ (if is_query p then core.messages ∷ [] else []))) stands.waiting
-    ∙ ap (λ (q : Parsed). replied (pending messages (past_of core) ++ (if is_query q then core.messages ∷ [] else []))) (sym (said_is messages core.messages p is))
-    ∙ sym (pending_onto messages (replies_of core p) (entry.In core.messages ∷ past_of core))
+pub still_pending : (given : Given) (core : Core) (k : Class) → said given core.messages ≡ k → StandsFor given core
+    → map number_of (pending_after core k) ≡ pending given (onto (map entry_of (replies_of core k)) (entry.In core.messages ∷ past_of core))
+still_pending given core k says stands =
+    let replied = without_all (map message_of (replies_of core k)) in
+    after_message given core k stands
+    ∙ ap (λ (ns : List ℕ). replied (ns ++ (if is_query k then core.messages ∷ [] else []))) stands.waiting
+    ∙ ap (λ (q : Class). replied (pending given (past_of core) ++ (if is_query q then core.messages ∷ [] else []))) (sym says)
+    ∙ sym (pending_onto given (replies_of core k) (entry.In core.messages ∷ past_of core))

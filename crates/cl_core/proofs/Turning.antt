@@ -1,38 +1,43 @@
 -- A session that does each job before it takes the next message.
-use Rattle.std.proofs.Common.{◌≡◌, ⊎_elim, ℕ, ℤ, ◌≤◌, List, [], ◌∷◌, ◌++◌, length, map, Bool, true, false, refl, sym, ap, ◌∙◌, subst, arith, append-nil, eq-eqb}
-use Rattle.std.specs.Prelude.{Contains, Option, Some, None, is_some, if◌then◌else◌, ◌&&◌, ◌||◌}
-use Rattle.std.proofs.lemmas.List.{length-map}
-use Rattle.std.proofs.lemmas.Bool.{MatchBool-at_false}
+use Rattle.std.proofs.Common.{◌≡◌, ◌⊎◌, inl, inr, ⊎_elim, ℕ, ℤ, ◌+◌, List, [], ◌∷◌, ◌++◌, length, map, Bool, true, false, refl, sym, ap, ◌∙◌, subst, arith, append-nil, nat_eq, eq-eqb, zero, suc}
+use Rattle.std.specs.Prelude.{Contains, Option, Some, None, is_some, if◌then◌else◌, ◌&&◌, ◌||◌, not, option_map, unwrap_or}
+use Rattle.std.specs.Bool.{MatchBool}
+use Rattle.std.specs.Str.{bytes_eq}
+use Rattle.std.proofs.lemmas.Bool.{false≢true}
+use Rattle.std.proofs.lemmas.Slice.Eq.{bytes_eq-Decides}
+use Rattle.cl_headers.specs.Headers.{Headers}
+use Rattle.cl_base.specs.declared.query.Query.{Query}
+use Rattle.cl_base.specs.declared.headers.Read.{Read}
 use Rattle.cl_store.specs.declared.docs.Doc.{Doc}
 use Rattle.cl_store.specs.Docs.{doc_at}
 use Rattle.cl_query.specs.declared.job.Job.{Job}
 use Rattle.cl_rpc.specs.declared.id.Id.{Id}
-use Rattle.cl_rpc.specs.declared.call.Call.{Call}
-use Rattle.cl_rpc.specs.declared.call.Call.TheVariants as call
-use Rattle.cl_rpc.specs.declared.call.Parsed.{Parsed}
-use Rattle.cl_rpc.specs.declared.call.Parsed.TheVariants as parsed
 use Rattle.cl_rpc.specs.declared.out.How.{How}
-use Rattle.cl_rpc.specs.declared.out.How.TheVariants as how
 use Rattle.cl_rpc.specs.declared.out.Out.{Out}
+use Rattle.cl_rpc.specs.declared.out.How.TheVariants as how
 use Rattle.cl_rpc.specs.declared.out.Out.TheVariants as out
+use Rattle.cl_history.specs.Refusals.{out_of_memory}
 use Rattle.cl_rpc.specs.declared.out.Reply.{Reply}
+use Rattle.cl_rpc.specs.Classes.{Class, queries, exits, class_of}
+use Rattle.cl_history.specs.History.{End}
+use Rattle.cl_history.specs.Accepted.{is_shutdown}
 use Rattle.cl_core.specs.declared.core_state.Core.{Core}
+use Rattle.cl_core.specs.declared.core_state.Awaited.{Awaited}
 use Rattle.cl_core.specs.declared.event.Event.{Event}
 use Rattle.cl_core.specs.declared.event.Event.TheVariants as event
 use Rattle.cl_core.specs.declared.event.Ending.{Ending}
 use Rattle.cl_core.specs.declared.event.Effect.{Effect}
 use Rattle.cl_core.specs.declared.event.Effect.TheVariants as effect
 use Rattle.cl_core.specs.declared.waiting.Waiting.{Waiting}
-use Rattle.cl_core.specs.Refusals.{out_of_memory}
-use Rattle.cl_core.specs.Deciding.{core_refusal, left_waiting, replies_of, started_by, started_if, waiting_for}
-use Rattle.cl_core.specs.Steps.{Takes, Replies, Completes, Stops, Steps, start_jobs, finish, finish_if, finishes, is_nil, is_accepted, is_exit, first_ending, status_of, ending_after, left_by, left_after, pending_after}
-use Rattle.cl_core.specs.History.{shuts_down}
-use Rattle.cl_core.specs.Standing.{jobs_out, jobs_of, finish_of, IsIdle, TakesTurn, EndsTurn, EndsSession, Turns}
+use Rattle.cl_core.specs.Deciding.{core_refusal, ends_by, left_by, others_than, replies_of, started_by, started_if, waiting_for}
+use Rattle.cl_core.specs.Steps.{Takes, Completes, Stops, StartsAgain, Awaits, Needs, Loads, IsStale, IsLost, Steps, StepsOn, hears, is_awaited, awaited_message, again, begun_again, start_jobs, finish, finish_if, finishes, is_nil, is_accepted, is_exit, first_ending, status_of, ending_after, left_after, pending_after}
+use Rattle.cl_core.specs.Standing.{jobs_of, loads_of, finish_of, IsIdle, WorksOn, AwaitsRead, TakesTurn, EndsTurn, Restarts, ReadsFirst, EndsSession, Turns, messages_taken, reads_taken}
+use Rattle.cl_core.proofs.JobStands.{by_known}
 
 abbrev pub job_of : Waiting → Job
 job_of w = w.job
 
--- ---- the jobs and the end among the effects
+-- ---- the jobs, the reads and the end among the effects
 
 pub jobs_after_replies : (rs : List Reply) (es : List Effect) → jobs_of (map effect.Reply rs ++ es) ≡ jobs_of es
 jobs_after_replies [] es = refl
@@ -47,181 +52,272 @@ no_jobs_of_finish None none_left = refl
 no_jobs_of_finish (Some status) true = refl
 no_jobs_of_finish (Some status) false = refl
 
+loads_after_replies : (rs : List Reply) (es : List Effect) → loads_of (map effect.Reply rs ++ es) ≡ loads_of es
+loads_after_replies [] es = refl
+loads_after_replies (r ∷ rs) es = loads_after_replies rs es
+
+loads_after_jobs : (ws : List Waiting) (es : List Effect) → loads_of (start_jobs ws ++ es) ≡ loads_of es
+loads_after_jobs [] es = refl
+loads_after_jobs (w ∷ ws) es = loads_after_jobs ws es
+
+no_loads_of_finish : (o : Option ℕ) (none_left : Bool) → loads_of (finish_if o none_left) ≡ []
+no_loads_of_finish None none_left = refl
+no_loads_of_finish (Some status) true = refl
+no_loads_of_finish (Some status) false = refl
+
 pub finish_after_replies : (rs : List Reply) (es : List Effect) → finish_of (map effect.Reply rs ++ es) ≡ finish_of es
 finish_after_replies [] es = refl
 finish_after_replies (r ∷ rs) es = finish_after_replies rs es
 
-finish_after_jobs : (ws : List Waiting) (es : List Effect) → finish_of (start_jobs ws ++ es) ≡ finish_of es
+pub finish_after_jobs : (ws : List Waiting) (es : List Effect) → finish_of (start_jobs ws ++ es) ≡ finish_of es
 finish_after_jobs [] es = refl
 finish_after_jobs (w ∷ ws) es = finish_after_jobs ws es
-
-finish_is : (o : Option ℕ) → finish_of (finish_if o true) ≡ o
-finish_is None = refl
-finish_is (Some status) = refl
 
 no_finish : (o : Option ℕ) (none_left : Bool) → o ≡ None → finish_of (finish_if o none_left) ≡ None
 no_finish o none_left e = rw e refl
 
--- ---- what an idle core has and starts
+-- ---- what a message starts
 
-pub none_mapped : (ws : List Waiting) → map job_of ws ≡ [] → ws ≡ []
-none_mapped [] e = refl
-none_mapped (w ∷ ws) e = absurd (cc)
-
-if_none : (b : Bool) (ws : List Waiting) → ws ≡ [] → (if b then ws else []) ≡ []
-if_none true ws e = e
-if_none false ws e = refl
-
-if_both : (b : Bool) (us ws : List Waiting) → us ≡ [] → ws ≡ [] → (if b then us else ws) ≡ []
-if_both true us ws d e = d
-if_both false us ws d e = e
-
-left_of_none : (core : Core) (c : Call) → core.pending ≡ [] → left_waiting core c ≡ []
-left_of_none core (call.Cancel i) e = rw e refl
-left_of_none core (call.DidOpen path version text) e = rw e refl
-left_of_none core (call.DidChange path version (Some text)) e = if_both (is_some (doc_at core.docs path)) _ _ (rw e refl) e
-left_of_none core (call.DidChange path version None) e = e
-left_of_none core call.Initialize e = e
-left_of_none core call.Shutdown e = e
-left_of_none core call.Exit e = e
-left_of_none core (call.DidClose path) e = e
-left_of_none core (call.Watched paths) e = e
-left_of_none core (call.Symbols path) e = e
-left_of_none core call.Unknown e = e
-left_of_none core (call.BadParams b) e = e
-
-none_left_by : (core : Core) (p : Parsed) → core.pending ≡ [] → left_by core p ≡ []
-none_left_by core (parsed.Notification c) e = if_both core.initialised (left_waiting core c) core.pending (left_of_none core c e) e
-none_left_by core (parsed.Request i c) e = e
-none_left_by core (parsed.Refused i code) e = e
-none_left_by core parsed.Ignored e = e
-
-few_for : (core : Core) (i : Id) (path : List ℕ) (o : Option Doc) → length (waiting_for core i path o) ≤ 1
-few_for core i path None = omega arith
-few_for core i path (Some doc) = omega arith
-
-few_if : (core : Core) (o : Option ℤ) (i : Id) (c : Call) → length (started_if core o i c) ≤ 1
-few_if core (Some code) i c = omega arith
-few_if core None i (call.Symbols path) = few_for core i path (doc_at core.docs path)
-few_if core None i call.Initialize = omega arith
-few_if core None i call.Shutdown = omega arith
-few_if core None i call.Exit = omega arith
-few_if core None i (call.DidOpen path version text) = omega arith
-few_if core None i (call.DidChange path version text) = omega arith
-few_if core None i (call.DidClose path) = omega arith
-few_if core None i (call.Watched paths) = omega arith
-few_if core None i (call.Cancel j) = omega arith
-few_if core None i call.Unknown = omega arith
-few_if core None i (call.BadParams b) = omega arith
-
-few_started : (core : Core) (p : Parsed) → length (started_by core p) ≤ 1
-few_started core (parsed.Request i c) = few_if core (core_refusal core i c) i c
-few_started core (parsed.Notification c) = omega arith
-few_started core (parsed.Refused i code) = omega arith
-few_started core parsed.Ignored = omega arith
-
-exit_starts_none : (core : Core) (p : Parsed) → is_exit p ≡ true → started_by core p ≡ []
-exit_starts_none core (parsed.Request i c) e = absurd (cc)
-exit_starts_none core (parsed.Notification c) e = refl
-exit_starts_none core (parsed.Refused i code) e = refl
-exit_starts_none core parsed.Ignored e = refl
-
-pub exit_keeps : (p : Parsed) (accepted before : Bool) → is_exit p ≡ true → ((shuts_down p && accepted) || before) ≡ before
-exit_keeps (parsed.Request i c) accepted before e = absurd (cc)
-exit_keeps (parsed.Notification c) accepted before e = refl
-exit_keeps (parsed.Refused i code) accepted before e = refl
-exit_keeps parsed.Ignored accepted before e = refl
-
--- ---- the end, by whether the message is the `exit`
-
-ending_for : (b : Bool) (o : Option ℕ) (status : ℕ) → o ≡ None → (if b then first_ending o status else o) ≡ (if b then Some status else None)
-ending_for true o status e = rw e refl
-ending_for false o status e = e
-
-finish_for : (b : Bool) (o : Option ℕ) (status : ℕ) (left : List Waiting) → o ≡ None → (b ≡ true → left ≡ [])
-    → finish_of (finish (if b then first_ending o status else o) left) ≡ (if b then Some status else None)
-finish_for true o status left e none = rw (e, none refl) refl
-finish_for false o status left e none = rw e refl
-
-over_for : (b : Bool) (o : Option ℕ) (status : ℕ) (left : List Waiting) → o ≡ None → (b ≡ true → left ≡ [])
-    → finishes (if b then first_ending o status else o) left ≡ is_some (if b then Some status else None)
-over_for true o status left e none = rw (e, none refl) refl
-over_for false o status left e none = rw e refl
-
-pub takes_turn : (old new : Core) (p : Parsed) (effects : List Effect) → Takes old p new effects → IsIdle old → TakesTurn old p new effects
-takes_turn old new p effects takes idle =
-    let none : old.pending ≡ [] = none_mapped old.pending idle.none_out in
-    let started = started_by old p in
-    let left = pending_after old p in
-    let status : ℕ = if old.shut_down then 0 else 1 in
-    let only_started : left ≡ started = ap (λ (ws : List Waiting). ws ++ started) (none_left_by old p none) in
-    let none_left : is_exit p ≡ true → left ≡ [] = λ e. only_started ∙ exit_starts_none old p e in
-    let jobs : jobs_of effects ≡ map job_of started =
+pub jobs_by : (old new : Core) (k : Class) (effects : List Effect) → Takes old k new effects → jobs_of effects ≡ map job_of (started_by old k)
+jobs_by old new k effects takes =
     ap jobs_of takes.effects_are
-    ∙ jobs_after_replies (replies_of old p) (start_jobs started ++ finish (ending_after old p) left)
-    ∙ jobs_started started (finish (ending_after old p) left)
-    ∙ ap (λ (more : List Job). map job_of started ++ more) (no_jobs_of_finish (ending_after old p) (is_nil left))
-    ∙ append-nil (map job_of started) in
-    let ends : finish_of effects ≡ (if is_exit p then Some status else None) =
+    ∙ jobs_after_replies (replies_of old k) (start_jobs (started_by old k) ++ finish (ending_after old k) (pending_after old k))
+    ∙ jobs_started (started_by old k) (finish (ending_after old k) (pending_after old k))
+    ∙ ap (λ (more : List Job). map job_of (started_by old k) ++ more) (no_jobs_of_finish (ending_after old k) (is_nil (pending_after old k)))
+    ∙ append-nil (map job_of (started_by old k))
+
+pub loads_by : (old new : Core) (k : Class) (effects : List Effect) → Takes old k new effects → loads_of effects ≡ []
+loads_by old new k effects takes =
+    ap loads_of takes.effects_are
+    ∙ loads_after_replies (replies_of old k) (start_jobs (started_by old k) ++ finish (ending_after old k) (pending_after old k))
+    ∙ loads_after_jobs (started_by old k) (finish (ending_after old k) (pending_after old k))
+    ∙ no_loads_of_finish (ending_after old k) (is_nil (pending_after old k))
+
+finish_by : (old new : Core) (k : Class) (effects : List Effect) → Takes old k new effects → finish_of effects ≡ finish_of (finish (ending_after old k) (pending_after old k))
+finish_by old new k effects takes =
     ap finish_of takes.effects_are
-    ∙ finish_after_replies (replies_of old p) (start_jobs started ++ finish (ending_after old p) left)
-    ∙ finish_after_jobs started (finish (ending_after old p) left)
-    ∙ finish_for (is_exit p) old.ending status left idle.goes_on none_left in
-    record {
-      count = takes.messages;
-      jobs = ap (map job_of) (takes.pending ∙ only_started) ∙ sym jobs;
-      few = subst (λ (n : ℕ). n ≤ 1) (sym (ap length jobs ∙ length-map started job_of)) (few_started old p);
-      finish = ends;
-      ending = takes.ending ∙ ending_for (is_exit p) old.ending status idle.goes_on ∙ sym ends;
-      over = takes.finished ∙ over_for (is_exit p) old.ending status left idle.goes_on none_left ∙ sym (ap is_some ends);
-      none_after_exit = λ e. jobs ∙ ap (map job_of) (exit_starts_none old p e);
-      same_shut_down = λ e. takes.shut_down ∙ exit_keeps p (is_accepted old p) old.shut_down e;
-    }
+    ∙ finish_after_replies (replies_of old k) (start_jobs (started_by old k) ++ finish (ending_after old k) (pending_after old k))
+    ∙ finish_after_jobs (started_by old k) (finish (ending_after old k) (pending_after old k))
+
+abbrev pub OneAtMost : Core → List Waiting → Type 0
+OneAtMost core ws = (ws ≡ []) ⊎ ((w : Waiting) × (ws ≡ w ∷ []) × (w.job.message ≡ core.messages))
+
+few_for : (core : Core) (i : Id) (query : Query) (path : List ℕ) (o : Option Doc) → OneAtMost core (waiting_for core i query path o)
+few_for core i query path None = inl refl
+few_for core i query path (Some doc) = inr (_, refl, refl)
+
+few_query : (core : Core) (o : Option ℤ) (i : Id) (query : Query) (path : List ℕ) → OneAtMost core (started_if core o (queries i query path))
+few_query core (Some code) i query path = inl refl
+few_query core None i query path = few_for core i query path (doc_at core.docs path)
+
+few_none : (core : Core) (o : Option ℤ) (k : Class) → started_if core None k ≡ [] → OneAtMost core (started_if core o k)
+few_none core (Some code) k none = inl refl
+few_none core None k none = inl none
+
+pub few_started : (core : Core) (k : Class) → OneAtMost core (started_by core k)
+few_started core (queries i query path) = few_query core (core_refusal core (queries i query path)) i query path
+few_started core k = few_none core (core_refusal core k) k refl
+
+others_none : (o : Option End) (ws : List Waiting) → ws ≡ [] → others_than o ws ≡ []
+others_none None ws e = e
+others_none (Some end) ws e = rw e refl
+
+only_started : (core : Core) (k : Class) → core.pending ≡ [] → pending_after core k ≡ started_by core k
+only_started core k none = ap (λ (ws : List Waiting). ws ++ started_by core k) (others_none (ends_by core k) core.pending none)
+
+pub exit_starts_none : (core : Core) (k : Class) → is_exit k ≡ true → started_by core k ≡ []
+exit_starts_none core exits e = refl
+exit_starts_none core _ e = absurd (false≢true e)
+
+pub exit_keeps : (k : Class) (accepted before : Bool) → is_exit k ≡ true → ((accepted && is_shutdown k) || before) ≡ before
+exit_keeps exits true before e = refl
+exit_keeps exits false before e = refl
+exit_keeps _ accepted before e = absurd (false≢true e)
+
+-- ---- a message
+
+take_by : (b : Bool) (old new : Core) (k : Class) (effects : List Effect) → is_exit k ≡ b → Takes old k new effects → IsIdle old → TakesTurn b old new effects
+take_by true old new k effects is takes idle =
+    let none : started_by old k ≡ [] = exit_starts_none old k is in
+    let left : pending_after old k ≡ [] = only_started old k idle.none_waits ∙ none in
+    let status : ℕ = if old.shut_down then 0 else 1 in
+    let ends : ending_after old k ≡ Some status = rw (is, idle.goes_on) refl in (
+      jobs_by old new k effects takes ∙ ap (map job_of) none,
+      loads_by old new k effects takes,
+      finish_by old new k effects takes ∙ rw (ends, left) refl,
+      takes.pending ∙ left,
+      takes.shut_down ∙ exit_keeps k (is_accepted old k) old.shut_down is,
+    )
+take_by false old new k effects is takes idle =
+    let ends : ending_after old k ≡ None = rw is idle.goes_on in
+    let over : new.finished ≡ false = takes.finished ∙ rw ends refl in (
+      loads_by old new k effects takes,
+      finish_by old new k effects takes ∙ no_finish (ending_after old k) (is_nil (pending_after old k)) ends,
+      ⊎_elim
+          (λ none. inl (
+            jobs_by old new k effects takes ∙ ap (map job_of) none,
+            record { none_waits = takes.pending ∙ only_started old k idle.none_waits ∙ none; none_awaited = takes.awaited; goes_on = takes.ending ∙ ends; not_over = over },
+          ))
+          (λ one. inr (
+            one.0.job,
+            jobs_by old new k effects takes ∙ ap (map job_of) one.1,
+            record {
+              waiting = one.0;
+              only = takes.pending ∙ only_started old k idle.none_waits ∙ one.1;
+              its_job = refl;
+              none_awaited = takes.awaited;
+              goes_on = takes.ending ∙ ends;
+              not_over = over;
+            },
+          ))
+          (few_started old k),
+    )
 
 -- ---- the one job that is out ends
-
-one_mapped : (ws : List Waiting) (job : Job) → map job_of ws ≡ job ∷ [] → (w : Waiting) × (ws ≡ w ∷ []) × (w.job ≡ job)
-one_mapped [] job e = absurd (cc)
-one_mapped (w ∷ []) job e = (w, refl, cc)
-one_mapped (w ∷ v ∷ ws) job e = absurd (cc)
 
 none_after : (core : Core) (w : Waiting) (job : Job) → core.pending ≡ w ∷ [] → w.job ≡ job → left_after core job.message ≡ []
 none_after core w job one same = rw (one, same, eq-eqb job.message job.message refl) refl
 
-reply_turn : (old new : Core) (job : Job) (mark : ℕ) (h : How) (o : Out) (effects : List Effect)
-    → Replies old job mark h o new effects → left_after old job.message ≡ [] → old.ending ≡ None → EndsTurn old new effects
-reply_turn old new job mark h o effects r none goes_on = record {
-  count = r.messages;
-  idle = record {
-    none_out = ap (map job_of) (r.pending ∙ none);
-    goes_on = r.ending ∙ goes_on;
-    not_over = r.finished ∙ ap (λ (e : Option ℕ). finishes e (left_after old job.message)) goes_on;
-  };
-  none_started = ap jobs_of r.effects_are ∙ no_jobs_of_finish old.ending (is_nil (left_after old job.message));
-  goes_on = ap finish_of r.effects_are ∙ no_finish old.ending (is_nil (left_after old job.message)) goes_on;
-}
+here_one : (ws : List Waiting) (w : Waiting) → ws ≡ w ∷ [] → Contains ws w
+here_one ws w is = subst (λ (vs : List Waiting). Contains vs w) (sym is) (0, omega arith, refl)
 
-pub ends_turn : (old new : Core) (job : Job) (mark : ℕ) (h : How) (o : Out) (effects : List Effect)
-    → Completes old job mark h o new effects → jobs_out old ≡ job ∷ [] → old.ending ≡ None → EndsTurn old new effects
-ends_turn old new job mark h o effects c out_now goes_on =
-    let one = one_mapped old.pending job out_now in
-    let here : Contains old.pending one.0 = subst (λ (ws : List Waiting). Contains ws one.0) (sym one.1) (0, omega arith, refl) in
-    ⊎_elim (λ r. reply_turn old new job mark h o effects r (none_after old one.0 job one.1 one.2) goes_on)
-    (λ q. absurd (q.0 one.0 here one.2)) c
+ends_turn : (old new : Core) (job : Job) (mark : ℕ) (h : How) (o : Out) (effects : List Effect)
+    → Completes old job mark h o new effects → WorksOn old job → (messages_taken new ≡ messages_taken old) × (reads_taken new ≡ reads_taken old) × EndsTurn new effects
+ends_turn old new job mark h o effects c works = ⊎_elim
+    (λ r.
+    let none : left_after old job.message ≡ [] = none_after old works.waiting job works.only works.its_job in (
+      ap messages_taken r.new_is,
+      ap reads_taken r.new_is,
+      record {
+        idle = record {
+          none_waits = ap (λ (core : Core). core.pending) r.new_is ∙ none;
+          none_awaited = ap (λ (core : Core). core.awaited) r.new_is ∙ works.none_awaited;
+          goes_on = ap (λ (core : Core). core.ending) r.new_is ∙ works.goes_on;
+          not_over = ap (λ (core : Core). core.finished) r.new_is ∙ ap (λ (e : Option ℕ). finishes e (left_after old job.message)) works.goes_on;
+        };
+        none_started = ap jobs_of r.effects_are ∙ no_jobs_of_finish old.ending (is_nil (left_after old job.message));
+        none_loaded = ap loads_of r.effects_are ∙ no_loads_of_finish old.ending (is_nil (left_after old job.message));
+        goes_on = ap finish_of r.effects_are ∙ no_finish old.ending (is_nil (left_after old job.message)) works.goes_on;
+      },
+    ))
+    (λ q. absurd (q.not_out works.waiting (here_one old.pending works.waiting works.only) works.its_job)) c
 
-pub stops_idle : (old new : Core) (e : Ending) (effects : List Effect) → Stops old e new effects → IsIdle old → EndsSession old e new effects
-stops_idle old new e effects stops idle =
-    let none : old.pending ≡ [] = none_mapped old.pending idle.none_out in
-    record {
-      count = ap (λ (core : Core). core.messages) stops.same;
-      none_out = ap jobs_out stops.same ∙ idle.none_out;
-      effects_are = stops.effects_are ∙ ap (λ (o : Option ℕ). finish (first_ending o (status_of e)) old.pending) idle.goes_on ∙ ap (finish (Some (status_of e))) none;
-    }
+-- ---- it begins again, or awaits a read
+
+again_one : (ws : List Waiting) (w : Waiting) (m number mark : ℕ) (headers : Headers) → ws ≡ w ∷ [] → w.job.message ≡ m
+    → begun_again m number mark headers ws ≡ record w { job = again number mark headers w.job } ∷ []
+again_one ws w m number mark headers one same = rw (one, same, eq-eqb m m refl) refl
+
+need_turn : (old new : Core) (job : Job) (path : List ℕ) (effects : List Effect) → Needs old job path new effects ⊎ IsStale old job new effects → WorksOn old job
+    → (messages_taken new ≡ messages_taken old) × (reads_taken new ≡ reads_taken old) × (Restarts new effects ⊎ ReadsFirst path new effects)
+need_turn old new job path effects c works = ⊎_elim
+    (λ r. by_known _ (StartsAgain old job new effects) (Awaits old job path new effects)
+    ((messages_taken new ≡ messages_taken old) × (reads_taken new ≡ reads_taken old) × (Restarts new effects ⊎ ReadsFirst path new effects)) r.so
+    (λ a. (
+      ap messages_taken a.new_is,
+      ap reads_taken a.new_is,
+      inl (record {
+        job = again old.jobs (length old.journal) old.headers job;
+        started = ap jobs_of a.effects_are;
+        none_loaded = ap loads_of a.effects_are;
+        goes_on = ap finish_of a.effects_are;
+        works = record {
+          waiting = record works.waiting { job = again old.jobs (length old.journal) old.headers works.waiting.job };
+          only = ap (λ (core : Core). core.pending) a.new_is
+              ∙ again_one old.pending works.waiting job.message old.jobs (length old.journal) old.headers works.only (ap (λ (j : Job). j.message) works.its_job);
+          its_job = ap (again old.jobs (length old.journal) old.headers) works.its_job;
+          none_awaited = ap (λ (core : Core). core.awaited) a.new_is ∙ works.none_awaited;
+          goes_on = ap (λ (core : Core). core.ending) a.new_is ∙ works.goes_on;
+          not_over = ap (λ (core : Core). core.finished) a.new_is ∙ works.not_over;
+        };
+      }),
+    ))
+    (λ e a. (
+      ap messages_taken a.new_is,
+      ap reads_taken a.new_is,
+      inr (record {
+        none_started = ap jobs_of a.effects_are;
+        loads = ap loads_of a.effects_are;
+        goes_on = ap finish_of a.effects_are;
+        awaits = record {
+          waiting = works.waiting;
+          only = ap (λ (core : Core). core.pending) a.new_is ∙ works.only;
+          message = job.message;
+          its_message = ap (λ (j : Job). j.message) works.its_job;
+          awaited = ap (λ (core : Core). core.awaited) a.new_is;
+          goes_on = ap (λ (core : Core). core.ending) a.new_is ∙ works.goes_on;
+          not_over = ap (λ (core : Core). core.finished) a.new_is ∙ works.not_over;
+        };
+      }),
+    )))
+    (λ q. absurd (q.not_out works.waiting (here_one old.pending works.waiting works.only) works.its_job)) c
+
+-- the only one that waits is the one that is found
+one_found : (ws : List Waiting) (w v : Waiting) → ws ≡ w ∷ [] → Contains ws v → v ≡ w
+one_found ws w v one among = found (subst (λ (us : List Waiting). Contains us v) one among)
+  where
+    found : Contains (w ∷ []) v → v ≡ w
+    found (zero, lt, e) = sym e
+    found (suc n, lt, e) = absurd (omega arith)
+
+load_turn : (old new : Core) (message : ℕ) (path : List ℕ) (read : Read) (effects : List Effect) → Loads old message path read new effects ⊎ IsLost old message new effects → AwaitsRead old path → message ≡ awaited_message old
+    → (messages_taken new ≡ messages_taken old) × (reads_taken new ≡ reads_taken old + 1) × Restarts new effects
+load_turn old new message path read effects c awaits number =
+    let its : awaits.message ≡ message = sym (ap (λ (o : Option Awaited). unwrap_or (option_map (λ (a : Awaited). a.message) o) 0) awaits.awaited) ∙ sym number in ⊎_elim
+    (λ r. (
+      ap messages_taken r.new_is,
+      ap reads_taken r.new_is,
+      record {
+        job = again old.jobs (length old.journal + 1) new.headers r.waiting.job;
+        started = ap jobs_of r.effects_are;
+        none_loaded = ap loads_of r.effects_are;
+        goes_on = ap finish_of r.effects_are;
+        works = record {
+          waiting = record awaits.waiting { job = again old.jobs (length old.journal + 1) new.headers awaits.waiting.job };
+          only = ap (λ (core : Core). core.pending) r.new_is
+              ∙ again_one old.pending awaits.waiting message old.jobs (length old.journal + 1) new.headers awaits.only (awaits.its_message ∙ its);
+          its_job = ap (λ (w : Waiting). again old.jobs (length old.journal + 1) new.headers w.job) (sym (one_found old.pending awaits.waiting r.waiting awaits.only r.waits));
+          none_awaited = ap (λ (core : Core). core.awaited) r.new_is;
+          goes_on = ap (λ (core : Core). core.ending) r.new_is ∙ awaits.goes_on;
+          not_over = ap (λ (core : Core). core.finished) r.new_is ∙ awaits.not_over;
+        };
+      },
+    ))
+    (λ q. absurd (q.not_there awaits.waiting (here_one old.pending awaits.waiting awaits.only) (awaits.its_message ∙ its))) c
+
+stops_idle : (old new : Core) (e : Ending) (effects : List Effect) → Stops old e new effects → IsIdle old
+    → (messages_taken new ≡ messages_taken old) × (reads_taken new ≡ reads_taken old) × EndsSession e new effects
+stops_idle old new e effects stops idle = (
+  ap messages_taken stops.same,
+  ap reads_taken stops.same,
+  record {
+    none_waits = ap (λ (core : Core). core.pending) stops.same ∙ idle.none_waits;
+    effects_are = stops.effects_are ∙ ap (λ (o : Option ℕ). finish (first_ending o (status_of e)) old.pending) idle.goes_on ∙ ap (finish (Some (status_of e))) idle.none_waits;
+  },
+)
+
+-- ---- a step
+
+heard_on : (b : Bool) (P Q : Type 0) → b ≡ true → MatchBool b P Q → P
+heard_on true P Q e m = m
+heard_on false P Q e m = absurd (false≢true e)
+
+same_path : (path : List ℕ) → bytes_eq path path ≡ true
+same_path path = (bytes_eq-Decides path path).1 refl
+
+on : (old new : Core) (e : Event) (effects : List Effect) → hears old e ≡ true → Steps old e new effects → StepsOn old e new effects
+on old new e effects heard steps = heard_on (hears old e) (StepsOn old e new effects) ((new ≡ old) × (effects ≡ [])) heard steps
 
 pub step_turns : (old new : Core) (e : Event) (effects : List Effect) → Steps old e new effects → Turns old e new effects
-step_turns old new (event.Message p) effects steps = λ idle. takes_turn old new p effects (MatchBool-at_false _ _ idle.not_over steps) idle
-step_turns old new (event.Done done) effects steps = λ out_now goes_on not_over.
-    ends_turn old new done.job done.job.mark how.Answered (out.Answer done.answer) effects (MatchBool-at_false _ _ not_over steps) out_now goes_on
-step_turns old new (event.NoMemory job) effects steps = λ out_now goes_on not_over.
-    ends_turn old new job (length old.journal) how.Memory (out.Error out_of_memory) effects (MatchBool-at_false _ _ not_over steps) out_now goes_on
-step_turns old new (event.End e) effects steps = λ idle. stops_idle old new e effects (MatchBool-at_false _ _ idle.not_over steps) idle
+step_turns old new (event.Message p) effects steps = λ idle.
+    let takes : Takes old (class_of p) new effects = on old new (event.Message p) effects (rw (idle.not_over, idle.none_awaited) refl) steps in
+    (takes.messages, takes.loads, take_by (is_exit (class_of p)) old new (class_of p) effects refl takes idle)
+step_turns old new (event.Loaded path read) effects steps = λ awaits.
+    load_turn old new (awaited_message old) path read effects (on old new (event.Loaded path read) effects (rw (awaits.not_over, awaits.awaited) (same_path path)) steps) awaits refl
+step_turns old new (event.Done done) effects steps = λ works.
+    ends_turn old new done.job done.job.mark how.Answered (out.Answer done.answer) effects (on old new (event.Done done) effects (rw (works.not_over, works.none_awaited) refl) steps) works
+step_turns old new (event.Need need) effects steps = λ works.
+    need_turn old new need.job need.path effects (on old new (event.Need need) effects (rw (works.not_over, works.none_awaited) refl) steps) works
+step_turns old new (event.NoMemory job) effects steps = λ works.
+    ends_turn old new job (length old.journal) how.Memory (out.Error out_of_memory) effects (on old new (event.NoMemory job) effects (rw (works.not_over, works.none_awaited) refl) steps) works
+step_turns old new (event.End e) effects steps = λ idle. stops_idle old new e effects (on old new (event.End e) effects (rw (idle.not_over, idle.none_awaited) refl) steps) idle

@@ -1,11 +1,11 @@
 -- The requests that wait, as their messages.
-use Rattle.std.proofs.Common.{◌≡◌, ℕ, ◌<◌, List, [], ◌∷◌, map, filter, Bool, true, false, not, cond, refl, sym, ap, ◌∙◌, subst, nat_eq}
+use Rattle.std.proofs.Common.{◌≡◌, ℕ, ◌<◌, List, [], ◌∷◌, map, filter, Bool, true, false, not, cond, refl, sym, ap, ◌∙◌, subst, nat_eq, Result, Ok, Err, OnErr}
 use Rattle.std.specs.Prelude.{Contains}
 use Rattle.std.specs.List.{AllByRecursion}
 use Rattle.std.proofs.lemmas.List.{length-map, get_or-map}
 use Rattle.std.proofs.lemmas.List.Elements.{All-filter, All-weaker, All-contains, All-from_recursion, recursion_from_All}
 use Rattle.cl_core.specs.declared.waiting.Waiting.{Waiting}
-use Rattle.cl_core.specs.History.{without}
+use Rattle.cl_history.specs.History.{without}
 
 -- a filter over a mapped list
 kept_as : {X Y : Type 0} (f : X → Y) (b : Bool) (x : X) (xs : List X) → map f (cond b (x ∷ xs) xs) ≡ cond b (f x ∷ map f xs) (map f xs)
@@ -31,3 +31,7 @@ one_of P xs x all h = All-contains P xs x (All-from_recursion P xs all) h
 
 pub all_left : {X : Type 0} (P Q : X → Type 0) (p : X → Bool) (xs : List X) → ((x : X) → P x → Q x) → AllByRecursion P xs → AllByRecursion Q (filter p xs)
 all_left P Q p xs f all = recursion_from_All Q (filter p xs) (All-filter p Q xs (All-weaker P Q f xs (All-from_recursion P xs all)))
+
+pub on_err : {X E : Type 0} (r : Result X E) (P : Type 0) → P → OnErr r P
+on_err (Ok x) P p = tt
+on_err (Err e) P p = p

@@ -1,48 +1,50 @@
--- What a step's effects write is what the journal writes.
-use Rattle.std.proofs.Common.{◌≡◌, ⊎_elim, ℕ, ℤ, ◌+◌, List, [], ◌∷◌, ◌++◌, length, map, filter, Bool, true, false, refl, sym, ap, ◌∙◌, subst, append_assoc, append-nil, eq-eqb}
-use Rattle.std.specs.Prelude.{Option, Some, None, slice_get, is_some, if◌then◌else◌}
+-- What a step writes.
+use Rattle.std.proofs.Common.{◌≡◌, ◌⊎◌, ⊎_elim, ℕ, ℤ, ◌+◌, List, [], ◌∷◌, ◌++◌, length, map, filter, reverse, refl, sym, ap, ◌∙◌, subst, append-nil, append_assoc, eq-eqb, nat_eq, Some, None, Option, true, false, Bool}
+use Rattle.std.specs.Prelude.{Contains, if◌then◌else◌}
 use Rattle.std.specs.List.{AllByRecursion}
-use Rattle.std.specs.Str.{bytes_eq}
-use Rattle.cl_store.specs.Docs.{doc_at}
 use Rattle.cl_base.specs.declared.answer.Answer.{Answer}
-use Rattle.cl_query.specs.declared.job.Job.{Job}
-use Rattle.cl_base.specs.declared.query.Query.{Query}
-use Rattle.cl_base.specs.declared.query.Query.TheVariants.{Symbols}
-use Rattle.cl_query.specs.AnswerOf.{AnswerOf, answer_of_any}
+use Rattle.cl_base.specs.declared.config.Settings.{Settings}
+use Rattle.cl_base.specs.declared.headers.Read.{Read}
 use Rattle.cl_rpc.specs.declared.id.Id.{Id}
-use Rattle.cl_rpc.specs.declared.call.Call.{Call}
-use Rattle.cl_rpc.specs.declared.call.Call.TheVariants as call
-use Rattle.cl_rpc.specs.declared.call.Parsed.{Parsed}
-use Rattle.cl_rpc.specs.declared.call.Parsed.TheVariants as parsed
 use Rattle.cl_rpc.specs.declared.out.How.{How}
 use Rattle.cl_rpc.specs.declared.out.How.TheVariants as how
 use Rattle.cl_rpc.specs.declared.out.Out.{Out}
 use Rattle.cl_rpc.specs.declared.out.Out.TheVariants as out
 use Rattle.cl_rpc.specs.declared.out.Reply.{Reply}
 use Rattle.cl_rpc.specs.Replies.{reply_frame}
+use Rattle.cl_rpc.specs.Classes.{Class, initialises, shuts_down, queries, unknown, bad_params, invalid, opens, changes, closes, cancels, watched, exits, dropped}
+use Rattle.cl_query.specs.declared.job.Job.{Job}
+use Rattle.cl_query.specs.AnswerOf.{AnswerOf}
+use Rattle.cl_history.specs.declared.entry.Entry.{Entry}
+use Rattle.cl_history.specs.declared.entry.Entry.TheVariants as entry
+use Rattle.cl_history.specs.Given.{Given, said}
+use Rattle.cl_history.specs.Refusals.{id_of, out_of_memory}
+use Rattle.cl_history.specs.History.{End, is_meant, refusal}
+use Rattle.cl_history.specs.Headers.{AreHeadersAt, past_at}
+use Rattle.cl_history.specs.Legal.{before, how_ended}
+use Rattle.cl_history.specs.Written.{IsOut, Tells, EntryWrites, Writes}
 use Rattle.cl_core.specs.declared.core_state.Core.{Core}
-use Rattle.cl_core.specs.declared.event.Entry.{Entry}
-use Rattle.cl_core.specs.declared.event.Entry.TheVariants as entry
 use Rattle.cl_core.specs.declared.event.Effect.{Effect}
-use Rattle.cl_core.specs.declared.event.Ending.{Ending}
 use Rattle.cl_core.specs.declared.event.Effect.TheVariants as effect
+use Rattle.cl_core.specs.declared.event.Ending.{Ending}
 use Rattle.cl_core.specs.declared.waiting.Waiting.{Waiting}
-use Rattle.cl_core.specs.Waiting.{same_id}
-use Rattle.cl_core.specs.Refusals.{out_of_memory}
-use Rattle.cl_core.specs.History.{said, refusal}
-use Rattle.cl_core.specs.Written.{before, id_of, IsOut, Tells, Writes}
-use Rattle.cl_core.specs.Settings.{no_settings}
-use Rattle.cl_core.specs.Deciding.{core_refusal, entry_of, reply_by, code_of, ended, ended_waiting, how_ended, replies_to_request, replies_of, started_by}
-use Rattle.cl_core.specs.Steps.{Takes, Replies, Completes, Stops, start_jobs, finish, finish_if, is_nil, pending_after, ending_after, left_after, first_ending, status_of}
-use Rattle.cl_core.specs.Standing.{past_of, Asks, StandsFor, frames_of}
+use Rattle.cl_core.specs.Waiting.{number_of, class_of_waiting}
+use Rattle.cl_core.specs.Deciding.{code_of, core_refusal, ended, ends_by, entry_of, meant_by, replies_by, replies_if_accepted, replies_of, reply_by, started_by}
+use Rattle.cl_core.specs.Steps.{Takes, Replies, Completes, Stops, StartsAgain, Awaits, Needs, Loads, IsStale, IsLost, start_jobs, finish, finish_if, is_nil, ending_after, pending_after, left_after, first_ending, status_of}
+use Rattle.cl_core.specs.Standing.{Asks, StandsFor, WritesOn, frames_of, past_of}
 use Rattle.cl_core.proofs.Onto.{onto}
-use Rattle.cl_core.proofs.Dues.{said_is, same_refusal, new_past}
+use Rattle.cl_core.proofs.Dues.{same_refusal}
+use Rattle.cl_core.proofs.MessageStands.{new_past}
+use Rattle.cl_core.proofs.JobStands.{past_with, by_known}
 use Rattle.cl_core.proofs.Waits.{one_of, all_left}
-use Rattle.cl_core.proofs.JobStands.{past_of_reply}
 
--- ---- the frames of effects
+-- ---- frames
 
-pub no_frames_of_finish : (o : Option ℕ) (none_left : Bool) → frames_of (finish_if o none_left) ≡ []
+frames_of_replies : (rs : List Reply) (es : List Effect) → frames_of es ≡ [] → frames_of (map effect.Reply rs ++ es) ≡ frames_of (map effect.Reply rs)
+frames_of_replies [] es e = e
+frames_of_replies (r ∷ rs) es e = ap (λ (more : List ℕ). reply_frame r ++ more) (frames_of_replies rs es e)
+
+no_frames_of_finish : (o : Option ℕ) (none_left : Bool) → frames_of (finish_if o none_left) ≡ []
 no_frames_of_finish None none_left = refl
 no_frames_of_finish (Some status) true = refl
 no_frames_of_finish (Some status) false = refl
@@ -51,29 +53,33 @@ no_frames_of_jobs : (ws : List Waiting) (es : List Effect) → frames_of es ≡ 
 no_frames_of_jobs [] es e = e
 no_frames_of_jobs (w ∷ ws) es e = no_frames_of_jobs ws es e
 
-frames_of_replies : (rs : List Reply) (es : List Effect) → frames_of es ≡ [] → frames_of (map effect.Reply rs ++ es) ≡ frames_of (map effect.Reply rs)
-frames_of_replies [] es e = e
-frames_of_replies (r ∷ rs) es e = ap (λ (bytes : List ℕ). reply_frame r ++ bytes) (frames_of_replies rs es e)
+-- ---- replies, one after another
 
--- ---- replies are written one after another
+-- the reply is that of its message, whatever is known at its mark
+record TellsEver (given : Given) (past : List Entry) (r : Reply) : Type 0 where
+  pub id_is : r.id ≡ id_of (said given r.message)
+  pub out_is : (marked : List Entry) → IsOut AnswerOf given (before past r.message) marked (said given r.message) r.how r.out
 
--- each of the replies tells what its entry says
-abbrev pub AllTell : List Parsed → List Entry → List Reply → Type 0
-AllTell messages past rs = AllByRecursion (λ (r : Reply). Tells messages past r.message r.mark r.how r) rs
+abbrev AllTell : Given → List Entry → List Reply → Type 0
+AllTell given past rs = AllByRecursion (TellsEver given past) rs
 
-tells_after : (messages : List Parsed) (past : List Entry) (e r : Reply) → Tells messages past r.message r.mark r.how r → Tells messages (entry_of e ∷ past) r.message r.mark r.how r
-tells_after messages past e r t = record { message = t.message; marked = t.marked; given = t.given; id_is = t.id_is; out_is = t.out_is }
+tells_now : (given : Given) (past : List Entry) (r : Reply) → TellsEver given past r → Tells AnswerOf given past r.message r.mark r.how r
+tells_now given past r t = record { message = refl; marked = refl; how_so = refl; id_is = t.id_is; out_is = t.out_is (past_at past r.mark) }
 
-all_tell_after : (messages : List Parsed) (past : List Entry) (e : Reply) (rs : List Reply) → AllTell messages past rs → AllTell messages (entry_of e ∷ past) rs
-all_tell_after messages past e [] all = tt
-all_tell_after messages past e (r ∷ rs) all = (tells_after messages past e r all.0, all_tell_after messages past e rs all.1)
+all_tell_after : (given : Given) (past : List Entry) (e : Reply) (rs : List Reply) → AllTell given past rs → AllTell given (entry_of e ∷ past) rs
+all_tell_after given past e [] all = tt
+all_tell_after given past e (r ∷ rs) all = (record { id_is = all.0.id_is; out_is = all.0.out_is }, all_tell_after given past e rs all.1)
 
-pub writes_replies : (messages : List Parsed) (past : List Entry) (bytes : List ℕ) (rs : List Reply)
-    → Writes messages past bytes → AllTell messages past rs → Writes messages (onto (map entry_of rs) past) (bytes ++ frames_of (map effect.Reply rs))
-writes_replies messages past bytes [] w all = subst (Writes messages past) (sym (append-nil bytes)) w
-writes_replies messages past bytes (r ∷ rs) w all =
-    subst (Writes messages (onto (map entry_of rs) (entry_of r ∷ past))) (append_assoc bytes (reply_frame r) (frames_of (map effect.Reply rs)))
-    (writes_replies messages (entry_of r ∷ past) (bytes ++ reply_frame r) rs (bytes, r, w, all.0, refl) (all_tell_after messages past r rs all.1))
+writes_replies : (given : Given) (past : List Entry) (bytes : List ℕ) (rs : List Reply)
+    → Writes AnswerOf given past bytes → AllTell given past rs → Writes AnswerOf given (onto (map entry_of rs) past) (bytes ++ frames_of (map effect.Reply rs))
+writes_replies given past bytes [] w all = subst (Writes AnswerOf given past) (sym (append-nil bytes)) w
+writes_replies given past bytes (r ∷ rs) w all =
+    subst (Writes AnswerOf given (onto (map entry_of rs) (entry_of r ∷ past))) (append_assoc bytes (reply_frame r) (frames_of (map effect.Reply rs)))
+    (writes_replies given (entry_of r ∷ past) (bytes ++ reply_frame r) rs (bytes, reply_frame r, w, (r, tells_now given past r all.0, refl), refl) (all_tell_after given past r rs all.1))
+
+-- an entry that writes nothing
+writes_none : (given : Given) (past : List Entry) (e : Entry) (bytes : List ℕ) → EntryWrites AnswerOf given past e [] → Writes AnswerOf given past bytes → Writes AnswerOf given (e ∷ past) bytes
+writes_none given past e bytes none w = (bytes, [], w, none, sym (append-nil bytes))
 
 -- ---- the replies that come directly after a message
 
@@ -81,116 +87,63 @@ before_now : (past : List Entry) (n : ℕ) → before (entry.In n ∷ past) n �
 before_now past n = rw (eq-eqb n n refl) refl
 
 -- what is replied to the message itself
-tells_itself : (messages : List Parsed) (past : List Entry) (n mark : ℕ) (p : Parsed) (h : How) (i : Option Id) (o : Out)
-    → said messages n ≡ p → i ≡ id_of p → IsOut messages past p h o → Tells messages (entry.In n ∷ past) n mark h (reply_by n mark h i o)
-tells_itself messages past n mark p h i o says under is = record {
-  message = refl;
-  marked = refl;
-  given = refl;
+tells_itself : (given : Given) (past : List Entry) (n mark : ℕ) (k : Class) (h : How) (i : Option Id) (o : Out)
+    → said given n ≡ k → i ≡ id_of k → ((marked : List Entry) → IsOut AnswerOf given past marked k h o) → TellsEver given (entry.In n ∷ past) (reply_by n mark h i o)
+tells_itself given past n mark k h i o says under is = record {
   id_is = under ∙ sym (ap id_of says);
-  out_is = subst (λ (q : Parsed). IsOut messages (before (entry.In n ∷ past) n) q h o) (sym says) (subst (λ (b : List Entry). IsOut messages b p h o) (sym (before_now past n)) is);
+  out_is = λ marked. subst (λ (q : Class). IsOut AnswerOf given (before (entry.In n ∷ past) n) marked q h o) (sym says) (subst (λ (b : List Entry). IsOut AnswerOf given b marked k h o) (sym (before_now past n)) (is marked));
 }
 
-request_tells : (messages : List Parsed) (past : List Entry) (n mark : ℕ) (i : Id) (c : Call) (o : Option ℤ)
-    → said messages n ≡ parsed.Request i c → refusal messages past (parsed.Request i c) ≡ o → AllTell messages (entry.In n ∷ past) (replies_to_request n mark i o c)
-request_tells messages past n mark i c (Some code) says e = (tells_itself messages past n mark (parsed.Request i c) how.Refused (Some i) (out.Error code) says refl (code, e, refl), tt)
-request_tells messages past n mark i call.Initialize None says e = (tells_itself messages past n mark (parsed.Request i call.Initialize) how.Answered (Some i) out.Capabilities says refl refl, tt)
-request_tells messages past n mark i call.Shutdown None says e = (tells_itself messages past n mark (parsed.Request i call.Shutdown) how.Answered (Some i) out.Null says refl refl, tt)
-request_tells messages past n mark i call.Exit None says e = tt
-request_tells messages past n mark i (call.DidOpen path version text) None says e = tt
-request_tells messages past n mark i (call.DidChange path version text) None says e = tt
-request_tells messages past n mark i (call.DidClose path) None says e = tt
-request_tells messages past n mark i (call.Watched paths) None says e = tt
-request_tells messages past n mark i (call.Cancel j) None says e = tt
-request_tells messages past n mark i (call.Symbols path) None says e = tt
-request_tells messages past n mark i call.Unknown None says e = tt
-request_tells messages past n mark i (call.BadParams b) None says e = tt
-
 -- a request that waits and is ended
-ended_tell : (messages : List Parsed) (past here : List Entry) (mark : ℕ) (h : How)
-    → ((b : List Entry) (p : Parsed) → IsOut messages b p h (out.Error (code_of h)))
-    → (ws : List Waiting) → AllByRecursion (Asks messages past) ws → AllTell messages here (ended mark h ws)
-ended_tell messages past here mark h is [] all = tt
-ended_tell messages past here mark h is (w ∷ ws) all = (
+ended_tell : (given : Given) (past here : List Entry) (mark : ℕ) (h : How)
+    → ((b marked : List Entry) (k : Class) → IsOut AnswerOf given b marked k h (out.Error (code_of h)))
+    → (ws : List Waiting) → AllByRecursion (Asks given past) ws → AllTell given here (ended mark h ws)
+ended_tell given past here mark h is [] all = tt
+ended_tell given past here mark h is (w ∷ ws) all = (
   record {
-    message = refl;
-    marked = refl;
-    given = refl;
-    id_is = sym (ap id_of (said_is messages w.job.message (parsed.Request w.id (call.Symbols w.job.path)) all.0.said_so));
-    out_is = is (before here w.job.message) (said messages w.job.message);
+    id_is = sym (ap id_of all.0.said_so);
+    out_is = λ marked. is (before here w.job.message) marked (said given w.job.message);
   },
-  ended_tell messages past here (mark + 1) h is ws all.1,
+  ended_tell given past here (mark + 1) h is ws all.1,
 )
 
--- the requests that a notification ends are some of those that wait
-ended_ask : (messages : List Parsed) (past : List Entry) (core : Core) (c : Call) → AllByRecursion (Asks messages past) core.pending → AllByRecursion (Asks messages past) (ended_waiting core c)
-ended_ask messages past core (call.Cancel i) all = all_left (Asks messages past) (Asks messages past) (λ (w : Waiting). same_id i w.id) core.pending (λ w a. a) all
-ended_ask messages past core (call.DidOpen path version text) all = all_left (Asks messages past) (Asks messages past) (λ (w : Waiting). bytes_eq w.job.path path) core.pending (λ w a. a) all
-ended_ask messages past core (call.DidChange path version (Some text)) all =
-    if_ask (is_some (doc_at core.docs path)) (all_left (Asks messages past) (Asks messages past) (λ (w : Waiting). bytes_eq w.job.path path) core.pending (λ w a. a) all)
-  where
-    if_ask : (b : Bool) → AllByRecursion (Asks messages past) (filter (λ (w : Waiting). bytes_eq w.job.path path) core.pending)
-        → AllByRecursion (Asks messages past) (if b then filter (λ (w : Waiting). bytes_eq w.job.path path) core.pending else [])
-    if_ask true some = some
-    if_ask false some = tt
-ended_ask messages past core (call.DidChange path version None) all = tt
-ended_ask messages past core call.Initialize all = tt
-ended_ask messages past core call.Shutdown all = tt
-ended_ask messages past core call.Exit all = tt
-ended_ask messages past core (call.DidClose path) all = tt
-ended_ask messages past core (call.Watched paths) all = tt
-ended_ask messages past core (call.Symbols path) all = tt
-ended_ask messages past core call.Unknown all = tt
-ended_ask messages past core (call.BadParams b) all = tt
+meant_ask : (given : Given) (past : List Entry) (o : Option End) (ws : List Waiting) → AllByRecursion (Asks given past) ws → AllByRecursion (Asks given past) (meant_by o ws)
+meant_ask given past None ws all = tt
+meant_ask given past (Some e) ws all = all_left (Asks given past) (Asks given past) (λ (w : Waiting). is_meant e (class_of_waiting w)) ws (λ w a. a) all
 
-is_cancelled : (messages : List Parsed) (b : List Entry) (p : Parsed) → IsOut messages b p how.Cancelled (out.Error (code_of how.Cancelled))
-is_cancelled messages b p = refl
+how_ended_out : (given : Given) (k : Class) (b marked : List Entry) (q : Class) → IsOut AnswerOf given b marked q (how_ended k) (out.Error (code_of (how_ended k)))
+how_ended_out given (cancels i) b marked q = refl
+how_ended_out given _ b marked q = refl
 
-is_modified : (messages : List Parsed) (b : List Entry) (p : Parsed) → IsOut messages b p how.Modified (out.Error (code_of how.Modified))
-is_modified messages b p = refl
+accepted_tell : (given : Given) (core : Core) (mark : ℕ) (k : Class) → said given core.messages ≡ k → StandsFor given core
+    → AllTell given (entry.In core.messages ∷ past_of core) (replies_if_accepted core mark k)
+accepted_tell given core mark (initialises i) says s = (tells_itself given (past_of core) core.messages mark (initialises i) how.Answered (Some i) out.Capabilities says refl (λ marked. refl), tt)
+accepted_tell given core mark (shuts_down i) says s = (tells_itself given (past_of core) core.messages mark (shuts_down i) how.Answered (Some i) out.Null says refl (λ marked. refl), tt)
+accepted_tell given core mark k says s =
+    ended_tell given (past_of core) (entry.In core.messages ∷ past_of core) mark (how_ended k) (how_ended_out given k) (meant_by (ends_by core k) core.pending)
+    (meant_ask given (past_of core) (ends_by core k) core.pending s.asks)
 
-how_ended_out : (messages : List Parsed) (c : Call) (b : List Entry) (p : Parsed) → IsOut messages b p (how_ended c) (out.Error (code_of (how_ended c)))
-how_ended_out messages (call.Cancel i) = is_cancelled messages
-how_ended_out messages (call.DidOpen path version text) = is_modified messages
-how_ended_out messages (call.DidChange path version text) = is_modified messages
-how_ended_out messages call.Initialize = is_modified messages
-how_ended_out messages call.Shutdown = is_modified messages
-how_ended_out messages call.Exit = is_modified messages
-how_ended_out messages (call.DidClose path) = is_modified messages
-how_ended_out messages (call.Watched paths) = is_modified messages
-how_ended_out messages (call.Symbols path) = is_modified messages
-how_ended_out messages call.Unknown = is_modified messages
-how_ended_out messages (call.BadParams b) = is_modified messages
+by_tell : (given : Given) (core : Core) (mark : ℕ) (o : Option ℤ) (k : Class) → said given core.messages ≡ k → StandsFor given core → refusal given (past_of core) k ≡ o
+    → AllTell given (entry.In core.messages ∷ past_of core) (replies_by core mark o k)
+by_tell given core mark (Some code) k says s e =
+    (tells_itself given (past_of core) core.messages mark k how.Refused (id_of k) (out.Error code) says refl (λ marked. (code, e, refl)), tt)
+by_tell given core mark None k says s e = accepted_tell given core mark k says s
 
-if_initialised : (messages : List Parsed) (here : List Entry) (b : Bool) (rs : List Reply) → AllTell messages here rs → AllTell messages here (if b then rs else [])
-if_initialised messages here true rs all = all
-if_initialised messages here false rs all = tt
-
-pub replies_tell : (messages : List Parsed) (core : Core) (p : Parsed) → StandsFor messages core → said messages core.messages ≡ p
-    → AllTell messages (entry.In core.messages ∷ past_of core) (replies_of core p)
-replies_tell messages core (parsed.Request i c) s says =
-    request_tells messages (past_of core) core.messages (length core.journal + 1) i c (core_refusal core i c) says (same_refusal messages core i c s)
-replies_tell messages core (parsed.Refused i code) s says =
-    (tells_itself messages (past_of core) core.messages (length core.journal + 1) (parsed.Refused i code) how.Refused i (out.Error code) says refl (code, refl, refl), tt)
-replies_tell messages core (parsed.Notification c) s says =
-    if_initialised messages (entry.In core.messages ∷ past_of core) core.initialised (ended (length core.journal + 1) (how_ended c) (ended_waiting core c))
-    (ended_tell messages (past_of core) (entry.In core.messages ∷ past_of core) (length core.journal + 1) (how_ended c) (how_ended_out messages c) (ended_waiting core c)
-    (ended_ask messages (past_of core) core c s.asks))
-replies_tell messages core parsed.Ignored s says = tt
-
-pub message_writes : (messages : List Parsed) (old new : Core) (p : Parsed) (effects : List Effect) (bytes : List ℕ)
-    → slice_get messages old.messages ≡ Some p → StandsFor messages old → Takes old p new effects
-    → Writes messages (past_of old) bytes → Writes messages (past_of new) (bytes ++ frames_of effects)
-message_writes messages old new p effects bytes next s takes w =
-    let left = pending_after old p in
-    let ends = ending_after old p in
-    let frames : frames_of effects ≡ frames_of (map effect.Reply (replies_of old p)) =
+pub message_writes : (given : Given) (old new : Core) (k : Class) (effects : List Effect)
+    → said given old.messages ≡ k → StandsFor given old → Takes old k new effects → WritesOn given old new effects
+message_writes given old new k effects says s takes bytes w =
+    let left = pending_after old k in
+    let ends = ending_after old k in
+    let rs = replies_of old k in
+    let frames : frames_of effects ≡ frames_of (map effect.Reply rs) =
     ap frames_of takes.effects_are
-    ∙ frames_of_replies (replies_of old p) (start_jobs (started_by old p) ++ finish ends left)
-    (no_frames_of_jobs (started_by old p) (finish ends left) (no_frames_of_finish ends (is_nil left))) in
-    subst (λ (past : List Entry). Writes messages past (bytes ++ frames_of effects)) (sym (new_past old new p effects takes))
-    (subst (λ (more : List ℕ). Writes messages (onto (map entry_of (replies_of old p)) (entry.In old.messages ∷ past_of old)) (bytes ++ more)) (sym frames)
-    (writes_replies messages (entry.In old.messages ∷ past_of old) bytes (replies_of old p) w (replies_tell messages old p s (said_is messages old.messages p next))))
+    ∙ frames_of_replies rs (start_jobs (started_by old k) ++ finish ends left)
+    (no_frames_of_jobs (started_by old k) (finish ends left) (no_frames_of_finish ends (is_nil left))) in
+    let next = entry.In old.messages ∷ past_of old in
+    subst (λ (past : List Entry). Writes AnswerOf given past (bytes ++ frames_of effects)) (sym (new_past old new k effects takes))
+    (subst (λ (more : List ℕ). Writes AnswerOf given (onto (map entry_of rs) next) (bytes ++ more)) (sym frames)
+    (writes_replies given next bytes rs (writes_none given (past_of old) (entry.In old.messages) bytes refl w)
+    (by_tell given old (length old.journal + 1) (core_refusal old k) k says s (same_refusal given old k s))))
 
 -- ---- the reply to a job that ended
 
@@ -202,66 +155,85 @@ IsJobsOut job how.Refused o = ⊥
 IsJobsOut job how.Cancelled o = ⊥
 IsJobsOut job how.Modified o = ⊥
 
-only_kind : (kind : Query) → kind ≡ Symbols
-only_kind Symbols = refl
+-- it rests on the job's own state
+abbrev pub RestsOn : Job → ℕ → How → Type 0
+RestsOn job mark how.Answered = mark ≡ job.mark
+RestsOn job mark _ = Unit {0}
 
-job_out : (messages : List Parsed) (past : List Entry) (w : Waiting) (h : How) (o : Out) → Asks messages past w → IsJobsOut w.job h o
-    → IsOut messages (before past w.job.message) (parsed.Request w.id (call.Symbols w.job.path)) h o
-job_out messages past w how.Answered o a is = (
+job_out : (given : Given) (past : List Entry) (w : Waiting) (mark : ℕ) (h : How) (o : Out) → Asks given past w → RestsOn w.job mark h → IsJobsOut w.job h o
+    → IsOut AnswerOf given (before past w.job.message) (past_at past mark) (class_of_waiting w) h o
+job_out given past w mark how.Answered o a rests is = (
   w.job.text,
+  w.job.headers,
   is.0,
   a.over,
-  subst (λ (kind : Query). AnswerOf kind no_settings [] w.job.path w.job.text is.0) (only_kind w.job.kind) (answer_of_any w.job.kind w.job.config no_settings w.job.headers [] w.job.path w.job.text is.0 is.1),
+  subst (λ (n : ℕ). AreHeadersAt given (past_at past n) w.job.headers) (sym rests) a.headers,
+  subst (λ (c : Settings). AnswerOf w.job.kind c w.job.headers w.job.path w.job.text is.0) a.config is.1,
   is.2,
 )
-job_out messages past w how.Memory o a is = is
-job_out messages past w how.Refused o a is = absurd is
-job_out messages past w how.Cancelled o a is = absurd is
-job_out messages past w how.Modified o a is = absurd is
+job_out given past w mark how.Memory o a rests is = is
+job_out given past w mark how.Refused o a rests is = absurd is
+job_out given past w mark how.Cancelled o a rests is = absurd is
+job_out given past w mark how.Modified o a rests is = absurd is
 
-tells_job : (messages : List Parsed) (past : List Entry) (w : Waiting) (mark : ℕ) (h : How) (o : Out) → Asks messages past w → IsJobsOut w.job h o
-    → Tells messages past w.job.message mark h (reply_by w.job.message mark h (Some w.id) o)
-tells_job messages past w mark h o a is =
-    let says = said_is messages w.job.message (parsed.Request w.id (call.Symbols w.job.path)) a.said_so in
-    record {
-      message = refl;
-      marked = refl;
-      given = refl;
-      id_is = sym (ap id_of says);
-      out_is = subst (λ (p : Parsed). IsOut messages (before past w.job.message) p h o) (sym says) (job_out messages past w h o a is);
-    }
+tells_job : (given : Given) (past : List Entry) (w : Waiting) (mark : ℕ) (h : How) (o : Out) → Asks given past w → RestsOn w.job mark h → IsJobsOut w.job h o
+    → Tells AnswerOf given past w.job.message mark h (reply_by w.job.message mark h (Some w.id) o)
+tells_job given past w mark h o a rests is = record {
+  message = refl;
+  marked = refl;
+  how_so = refl;
+  id_is = sym (ap id_of a.said_so);
+  out_is = subst (λ (k : Class). IsOut AnswerOf given (before past w.job.message) (past_at past mark) k h o) (sym a.said_so) (job_out given past w mark h o a rests is);
+}
 
-pub reply_writes : (messages : List Parsed) (old new : Core) (job : Job) (mark : ℕ) (h : How) (o : Out) (effects : List Effect) (bytes : List ℕ)
-    → StandsFor messages old → IsJobsOut job h o → Replies old job mark h o new effects
-    → Writes messages (past_of old) bytes → Writes messages (past_of new) (bytes ++ frames_of effects)
-reply_writes messages old new job mark h o effects bytes s is r w =
+reply_writes : (given : Given) (old new : Core) (job : Job) (mark : ℕ) (h : How) (o : Out) (effects : List Effect)
+    → StandsFor given old → RestsOn job mark h → IsJobsOut job h o → Replies old job mark h o new effects → WritesOn given old new effects
+reply_writes given old new job mark h o effects s rests is r bytes w =
     let reply = reply_by job.message mark h (Some r.waiting.id) o in
-    let asks : Asks messages (past_of old) r.waiting = one_of (Asks messages (past_of old)) old.pending r.waiting s.asks r.waits in
-    let tells : Tells messages (past_of old) job.message mark h reply =
-    subst (λ (j : Job). Tells messages (past_of old) j.message mark h (reply_by j.message mark h (Some r.waiting.id) o)) r.same_job
-    (tells_job messages (past_of old) r.waiting mark h o asks (subst (λ (j : Job). IsJobsOut j h o) (sym r.same_job) is)) in
+    let asks : Asks given (past_of old) r.waiting = one_of (Asks given (past_of old)) old.pending r.waiting s.asks r.waits in
+    let tells : Tells AnswerOf given (past_of old) job.message mark h reply =
+    subst (λ (j : Job). Tells AnswerOf given (past_of old) j.message mark h (reply_by j.message mark h (Some r.waiting.id) o)) r.same_job
+    (tells_job given (past_of old) r.waiting mark h o asks (subst (λ (j : Job). RestsOn j mark h) (sym r.same_job) rests) (subst (λ (j : Job). IsJobsOut j h o) (sym r.same_job) is)) in
     let frames : frames_of effects ≡ reply_frame reply =
     ap frames_of r.effects_are ∙ ap (λ (more : List ℕ). reply_frame reply ++ more) (no_frames_of_finish old.ending (is_nil (left_after old job.message))) ∙ append-nil (reply_frame reply) in
-    subst (λ (past : List Entry). Writes messages past (bytes ++ frames_of effects)) (sym (past_of_reply old new job mark h o effects r))
-    (bytes, reply, w, tells, ap (λ (more : List ℕ). bytes ++ more) frames)
+    let here : past_of new ≡ entry.Reply job.message mark h ∷ past_of old =
+    ap past_of r.new_is ∙ past_with old.journal (entry.Reply job.message mark h) in
+    subst (λ (past : List Entry). Writes AnswerOf given past (bytes ++ frames_of effects)) (sym here)
+    (bytes, frames_of effects, w, (reply, tells, frames), refl)
 
--- a step that changes nothing writes nothing
-pub nothing_writes : (messages : List Parsed) (old new : Core) (effects : List Effect) (bytes : List ℕ)
-    → new ≡ old → effects ≡ [] → Writes messages (past_of old) bytes → Writes messages (past_of new) (bytes ++ frames_of effects)
-nothing_writes messages old new effects bytes same none w =
-    let whole : bytes ++ frames_of effects ≡ bytes = ap (λ (es : List Effect). bytes ++ frames_of es) none ∙ append-nil bytes in
-    subst (λ (core : Core). Writes messages (past_of core) (bytes ++ frames_of effects)) (sym same) (subst (Writes messages (past_of old)) (sym whole) w)
+-- ---- a step that writes nothing
 
-pub job_writes : (messages : List Parsed) (old new : Core) (job : Job) (mark : ℕ) (h : How) (o : Out) (effects : List Effect) (bytes : List ℕ)
-    → StandsFor messages old → IsJobsOut job h o → Completes old job mark h o new effects
-    → Writes messages (past_of old) bytes → Writes messages (past_of new) (bytes ++ frames_of effects)
-job_writes messages old new job mark h o effects bytes s is c w =
-    ⊎_elim (λ r. reply_writes messages old new job mark h o effects bytes s is r w)
-    (λ q. nothing_writes messages old new effects bytes q.1 q.2 w) c
-
-pub stop_writes : (messages : List Parsed) (old new : Core) (e : Ending) (effects : List Effect) (bytes : List ℕ)
-    → Stops old e new effects → Writes messages (past_of old) bytes → Writes messages (past_of new) (bytes ++ frames_of effects)
-stop_writes messages old new e effects bytes stops w =
-    let quiet : frames_of effects ≡ [] = ap frames_of stops.effects_are ∙ no_frames_of_finish (first_ending old.ending (status_of e)) (is_nil old.pending) in
+quiet_writes : (given : Given) (old new : Core) (effects : List Effect) → past_of new ≡ past_of old → frames_of effects ≡ [] → WritesOn given old new effects
+quiet_writes given old new effects same quiet bytes w =
     let whole : bytes ++ frames_of effects ≡ bytes = ap (λ (more : List ℕ). bytes ++ more) quiet ∙ append-nil bytes in
-    subst (λ (core : Core). Writes messages (past_of core) (bytes ++ frames_of effects)) (sym stops.same) (subst (Writes messages (past_of old)) (sym whole) w)
+    subst (λ (past : List Entry). Writes AnswerOf given past (bytes ++ frames_of effects)) (sym same) (subst (Writes AnswerOf given (past_of old)) (sym whole) w)
+
+pub nothing_writes : (given : Given) (old new : Core) (effects : List Effect) → new ≡ old → effects ≡ [] → WritesOn given old new effects
+nothing_writes given old new effects same none = quiet_writes given old new effects (ap past_of same) (ap frames_of none)
+
+pub job_writes : (given : Given) (old new : Core) (job : Job) (mark : ℕ) (h : How) (o : Out) (effects : List Effect)
+    → StandsFor given old → RestsOn job mark h → IsJobsOut job h o → Completes old job mark h o new effects → WritesOn given old new effects
+job_writes given old new job mark h o effects s rests is c =
+    ⊎_elim (λ r. reply_writes given old new job mark h o effects s rests is r) (λ q. nothing_writes given old new effects q.same q.none) c
+
+pub need_writes : (given : Given) (old new : Core) (job : Job) (path : List ℕ) (effects : List Effect) → Needs old job path new effects ⊎ IsStale old job new effects → WritesOn given old new effects
+need_writes given old new job path effects c = ⊎_elim
+    (λ r. by_known _ (StartsAgain old job new effects) (Awaits old job path new effects) (WritesOn given old new effects) r.so
+    (λ a. quiet_writes given old new effects (ap past_of a.new_is) (ap frames_of a.effects_are))
+    (λ e a. quiet_writes given old new effects (ap past_of a.new_is) (ap frames_of a.effects_are)))
+    (λ q. nothing_writes given old new effects q.same q.none)
+    c
+
+pub load_writes : (given : Given) (old new : Core) (message : ℕ) (path : List ℕ) (read : Read) (effects : List Effect) → Loads old message path read new effects ⊎ IsLost old message new effects → WritesOn given old new effects
+load_writes given old new message path read effects c = ⊎_elim
+    (λ r bytes w.
+    let whole : bytes ++ frames_of effects ≡ bytes = ap (λ (more : List ℕ). bytes ++ more) (ap frames_of r.effects_are) ∙ append-nil bytes in
+    let here : past_of new ≡ entry.Load old.loads ∷ past_of old = ap past_of r.new_is ∙ past_with old.journal (entry.Load old.loads) in
+    subst (λ (past : List Entry). Writes AnswerOf given past (bytes ++ frames_of effects)) (sym here)
+    (subst (Writes AnswerOf given (entry.Load old.loads ∷ past_of old)) (sym whole) (writes_none given (past_of old) (entry.Load old.loads) bytes refl w)))
+    (λ q. nothing_writes given old new effects q.same q.none)
+    c
+
+pub stop_writes : (given : Given) (old new : Core) (e : Ending) (effects : List Effect) → Stops old e new effects → WritesOn given old new effects
+stop_writes given old new e effects stops =
+    quiet_writes given old new effects (ap past_of stops.same) (ap frames_of stops.effects_are ∙ no_frames_of_finish (first_ending old.ending (status_of e)) (is_nil old.pending))

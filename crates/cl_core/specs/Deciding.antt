@@ -1,35 +1,51 @@
--- What a core replies, by its own facts.
-use Rattle.std.specs.Prelude.{ℕ, ℤ, ◌+◌, List, [], ◌∷◌, length, filter, not, if◌then◌else◌, Option, Some, None, option_map, is_some}
+-- What a core decides of a message, by its own facts.
+use Rattle.std.specs.Prelude.{◌≡◌, ℕ, ℤ, ◌+◌, ◌&&◌, ◌||◌, List, [], ◌∷◌, ◌++◌, length, filter, Bool, true, false, not, if◌then◌else◌, Option, Some, None, option_map, is_some}
 use Rattle.std.specs.List.{list_any}
 use Rattle.std.specs.Str.{bytes_eq}
+use Rattle.cl_base.specs.declared.headers.Known.{Known}
+use Rattle.cl_base.specs.declared.headers.Known.TheVariants as known
+use Rattle.cl_base.specs.declared.query.Query.{Query}
 use Rattle.cl_store.specs.declared.docs.Doc.{Doc}
 use Rattle.cl_store.specs.declared.docs.Docs.{Docs}
 use Rattle.cl_store.specs.Docs.{doc_at}
 use Rattle.cl_rpc.specs.declared.id.Id.{Id}
-use Rattle.cl_rpc.specs.declared.call.Call.{Call}
-use Rattle.cl_rpc.specs.declared.call.Call.TheVariants as call
-use Rattle.cl_rpc.specs.declared.call.Parsed.{Parsed}
-use Rattle.cl_rpc.specs.declared.call.Parsed.TheVariants as parsed
 use Rattle.cl_rpc.specs.declared.out.How.{How}
 use Rattle.cl_rpc.specs.declared.out.How.TheVariants as how
 use Rattle.cl_rpc.specs.declared.out.Out.{Out}
 use Rattle.cl_rpc.specs.declared.out.Out.TheVariants as out
 use Rattle.cl_rpc.specs.declared.out.Reply.{Reply}
-use Rattle.cl_base.specs.declared.query.Query.TheVariants.{Symbols}
-use Rattle.cl_core.specs.Settings.{no_settings}
+use Rattle.cl_rpc.specs.Classes.{Class, initialises, shuts_down, queries, unknown, bad_params, invalid, opens, changes, closes, cancels, watched, exits}
+use Rattle.cl_history.specs.declared.entry.Entry.{Entry}
+use Rattle.cl_history.specs.declared.entry.Entry.TheVariants as entry
+use Rattle.cl_history.specs.Refusals.{id_of, refusal_of, document_of, is_open, request_cancelled, content_modified, out_of_memory}
+use Rattle.cl_history.specs.History.{End, ends, is_meant}
+use Rattle.cl_history.specs.Legal.{how_ended}
 use Rattle.cl_core.specs.declared.core_state.Core.{Core}
-use Rattle.cl_core.specs.declared.event.Entry.{Entry}
-use Rattle.cl_core.specs.declared.event.Entry.TheVariants as entry
 use Rattle.cl_core.specs.declared.waiting.Waiting.{Waiting}
-use Rattle.cl_core.specs.Waiting.{same_id, has_id}
-use Rattle.cl_core.specs.Refusals.{refusal_of, document_of, is_open, request_cancelled, content_modified, out_of_memory}
+use Rattle.cl_core.specs.Waiting.{has_id, class_of_waiting}
 
 -- the texts of the open documents
 abbrev pub texts_of : Docs → List ℕ → Option (List ℕ)
 texts_of docs path = option_map (λ (doc : Doc). doc.text) (doc_at docs path)
 
-abbrev pub core_refusal : Core → Id → Call → Option ℤ
-core_refusal core i c = refusal_of core.initialised core.shut_down (list_any (has_id i) core.pending) (is_open (texts_of core.docs) (document_of c)) c
+abbrev pub versions_of : Docs → List ℕ → Option ℤ
+versions_of docs path = option_map (λ (doc : Doc). doc.version) (doc_at docs path)
+
+-- ---- refusals
+
+abbrev pub core_refusal_by_id : Core → Id → Class → Option ℤ
+core_refusal_by_id core i k = refusal_of core.initialised core.shut_down (list_any (has_id i) core.pending) (is_open (texts_of core.docs) (document_of k)) k
+
+abbrev pub core_refusal : Core → Class → Option ℤ
+core_refusal core (initialises i) = core_refusal_by_id core i (initialises i)
+core_refusal core (shuts_down i) = core_refusal_by_id core i (shuts_down i)
+core_refusal core (queries i query path) = core_refusal_by_id core i (queries i query path)
+core_refusal core (unknown i) = core_refusal_by_id core i (unknown i)
+core_refusal core (bad_params i b) = core_refusal_by_id core i (bad_params i b)
+core_refusal core (invalid i code) = Some code
+core_refusal core _ = None
+
+-- ---- replies
 
 abbrev pub reply_by : ℕ → ℕ → How → Option Id → Out → Reply
 reply_by message mark h i o = record { message = message; mark = mark; how = h; id = i; out = o }
@@ -47,43 +63,40 @@ ended mark h (w ∷ ws) = reply_by w.job.message mark h (Some w.id) (out.Error (
 abbrev pub entry_of : Reply → Entry
 entry_of r = entry.Reply r.message r.mark r.how
 
--- the reply to a request, by its refusal
-abbrev pub replies_to_request : ℕ → ℕ → Id → Option ℤ → Call → List Reply
-replies_to_request n mark i (Some code) c = reply_by n mark how.Refused (Some i) (out.Error code) ∷ []
-replies_to_request n mark i None call.Initialize = reply_by n mark how.Answered (Some i) out.Capabilities ∷ []
-replies_to_request n mark i None call.Shutdown = reply_by n mark how.Answered (Some i) out.Null ∷ []
-replies_to_request n mark i None _ = []
+-- the requests that a message ends, and those that go on waiting
+abbrev pub meant_by : Option End → List Waiting → List Waiting
+meant_by None ws = []
+meant_by (Some e) ws = filter (λ w. is_meant e (class_of_waiting w)) ws
 
--- the requests that a notification ends, and those that go on waiting
-abbrev pub ended_waiting : Core → Call → List Waiting
-ended_waiting core (call.Cancel i) = filter (λ w. same_id i w.id) core.pending
-ended_waiting core (call.DidOpen path version text) = filter (λ w. bytes_eq w.job.path path) core.pending
-ended_waiting core (call.DidChange path version (Some text)) =
-    if is_some (doc_at core.docs path) then filter (λ w. bytes_eq w.job.path path) core.pending else []
-ended_waiting core _ = []
+abbrev pub others_than : Option End → List Waiting → List Waiting
+others_than None ws = ws
+others_than (Some e) ws = filter (λ w. not (is_meant e (class_of_waiting w))) ws
 
-abbrev pub left_waiting : Core → Call → List Waiting
-left_waiting core (call.Cancel i) = filter (λ w. not (same_id i w.id)) core.pending
-left_waiting core (call.DidOpen path version text) = filter (λ w. not (bytes_eq w.job.path path)) core.pending
-left_waiting core (call.DidChange path version (Some text)) =
-    if is_some (doc_at core.docs path) then filter (λ w. not (bytes_eq w.job.path path)) core.pending else core.pending
-left_waiting core _ = core.pending
+abbrev pub ends_by : Core → Class → Option End
+ends_by core k = ends core.initialised (texts_of core.docs) k
 
-abbrev pub how_ended : Call → How
-how_ended (call.Cancel i) = how.Cancelled
-how_ended _ = how.Modified
+abbrev pub left_by : Core → Class → List Waiting
+left_by core k = others_than (ends_by core k) core.pending
+
+-- the replies that come directly after a message that isn't refused
+abbrev pub replies_if_accepted : Core → ℕ → Class → List Reply
+replies_if_accepted core mark (initialises i) = reply_by core.messages mark how.Answered (Some i) out.Capabilities ∷ []
+replies_if_accepted core mark (shuts_down i) = reply_by core.messages mark how.Answered (Some i) out.Null ∷ []
+replies_if_accepted core mark k = ended mark (how_ended k) (meant_by (ends_by core k) core.pending)
+
+abbrev pub replies_by : Core → ℕ → Option ℤ → Class → List Reply
+replies_by core mark (Some code) k = reply_by core.messages mark how.Refused (id_of k) (out.Error code) ∷ []
+replies_by core mark None k = replies_if_accepted core mark k
 
 -- the replies that come directly after a message
-abbrev pub replies_of : Core → Parsed → List Reply
-replies_of core (parsed.Request i c) = replies_to_request core.messages (length core.journal + 1) i (core_refusal core i c) c
-replies_of core (parsed.Refused i code) = reply_by core.messages (length core.journal + 1) how.Refused i (out.Error code) ∷ []
-replies_of core (parsed.Notification c) = if core.initialised then ended (length core.journal + 1) (how_ended c) (ended_waiting core c) else []
-replies_of core parsed.Ignored = []
+abbrev pub replies_of : Core → Class → List Reply
+replies_of core k = replies_by core (length core.journal + 1) (core_refusal core k) k
 
--- the request that starts to wait, over the document that is open
-abbrev pub waiting_for : Core → Id → List ℕ → Option Doc → List Waiting
-waiting_for core i path None = []
-waiting_for core i path (Some doc) = record {
+-- ---- the request that starts to wait, over the document that is open
+
+abbrev pub waiting_for : Core → Id → Query → List ℕ → Option Doc → List Waiting
+waiting_for core i query path None = []
+waiting_for core i query path (Some doc) = record {
   id = i;
   job = record {
     number = core.jobs;
@@ -92,17 +105,24 @@ waiting_for core i path (Some doc) = record {
     path = path;
     version = doc.version;
     text = doc.text;
-    config = no_settings;
-    headers = [];
-    kind = Symbols;
+    config = core.config;
+    headers = core.headers;
+    kind = query;
   };
 } ∷ []
 
-abbrev pub started_if : Core → Option ℤ → Id → Call → List Waiting
-started_if core None i (call.Symbols path) = waiting_for core i path (doc_at core.docs path)
-started_if core _ i c = []
+abbrev pub started_if : Core → Option ℤ → Class → List Waiting
+started_if core None (queries i query path) = waiting_for core i query path (doc_at core.docs path)
+started_if core _ k = []
 
--- the request that starts to wait by a message
-abbrev pub started_by : Core → Parsed → List Waiting
-started_by core (parsed.Request i c) = started_if core (core_refusal core i c) i c
-started_by core _ = []
+abbrev pub started_by : Core → Class → List Waiting
+started_by core k = started_if core (core_refusal core k) k
+
+-- ---- what is known of headers after a message, where this was known before
+
+abbrev pub known_after : (initialised stands : Bool) → Class → List ℕ → Option Known → Option Known
+known_after initialised stands (opens p version text) path before = if initialised && bytes_eq p path then Some (known.Found text) else before
+known_after initialised stands (changes p version text) path before = if initialised && (bytes_eq p path && stands) then Some (known.Found text) else before
+known_after initialised stands (closes p) path before = if initialised && (bytes_eq p path && stands) then None else before
+known_after initialised stands (watched ps) path before = if initialised && (list_any (λ p. bytes_eq p path) ps && not stands) then None else before
+known_after initialised stands _ path before = before

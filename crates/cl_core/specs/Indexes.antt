@@ -11,7 +11,8 @@ use Rattle.cl_rpc.specs.declared.id.Id.TheVariants as id
 use Rattle.cl_core.specs.declared.index.Ids.{Ids}
 use Rattle.cl_core.specs.declared.index.Documents.{Documents}
 use Rattle.cl_core.specs.declared.waiting.Waiting.{Waiting}
-use Rattle.cl_core.specs.Waiting.{same_id}
+use Rattle.cl_rpc.specs.Classes.{same_id}
+use Rattle.cl_core.specs.Waiting.{number_of}
 
 -- the message under an id
 abbrev pub message_by : Ids → Id → Option ℕ
@@ -22,9 +23,6 @@ message_by ids (id.Text text) = get_by (λ k. slice_cmp nat_cmp text k.items) id
 abbrev pub messages_on : Documents → List ℕ → List ℕ
 messages_on documents path = unwrap_or (option_map (λ (s : BTreeSet ℕ). s.keys) (get (slice_cmp nat_cmp) documents.groups path)) []
 
--- the number of the message that made a request
-abbrev pub number_of : Waiting → ℕ
-number_of w = w.job.message
 
 -- each request that waits stands at its message's number, in order, and the indexes name just those that wait
 pub record IsIndexed (waiting : BTreeMap ℕ Waiting) (ids : Ids) (documents : Documents) : Type 0 where

@@ -1,13 +1,8 @@
-pub mod Settings
 pub mod Waiting
-pub mod Refusals
-pub mod History
-pub mod Legal
-pub mod Written
 pub mod Deciding
-pub mod Standing
 pub mod Steps
-pub mod Once
+pub mod Decisions
+pub mod Standing
 pub mod Runs
 pub mod Indexes
 pub mod Numbered

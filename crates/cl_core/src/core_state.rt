@@ -1,20 +1,32 @@
-use crate::event::Entry;
 use crate::pending::Pending;
-use cl_base::{List, Mem};
+use cl_base::{Config, Duplicate, List, Mem, Path};
 use cl_headers::HeaderMap;
+use cl_history::Entry;
 use cl_store::Docs;
 use std::alloc::Global;
 use std::marker::Model;
 
-/// The state of a session: what was accepted so far, the open documents, the requests that wait for their replies,
-/// and the journal.
+/// The read that a session awaits: its path, and the message whose job needs it.
+#[derive(Drop)]
+pub struct Awaited {
+    pub message: u64,
+    pub path: Path,
+}
+
+/// The state of a session: its config, what was accepted so far, the open documents, what is known of headers, the
+/// requests that wait for their replies, the read that is awaited, and the journal. `messages`, `loads` and `jobs` are
+/// how many there were so far.
 #[derive(Drop)]
 pub struct State {
+    pub(crate) config: Config,
     pub(crate) initialised: bool,
     pub(crate) shut_down: bool,
     pub(crate) docs: Docs,
+    pub(crate) headers: HeaderMap,
     pub(crate) pending: Pending,
+    pub(crate) awaited: Option<Awaited>,
     pub(crate) messages: u64,
+    pub(crate) loads: u64,
     pub(crate) jobs: u64,
     pub(crate) ending: Option<u8>,
     pub(crate) finished: bool,
@@ -43,29 +55,36 @@ impl Model for Core {
 
 impl Core {
     ghost use Rattle.std.specs.Prelude.{◌≡◌, ℕ, [], List, None, IfOk};
-    ghost use Rattle.cl_headers.specs.Headers.{known_at};
-    ghost use Rattle.cl_rpc.specs.declared.call.Parsed.{Parsed};
-    ghost use Rattle.cl_core.specs.Standing.{IsIdle, StandsFor, journal_of};
+    ghost use Rattle.cl_history.specs.Given.{Given};
+    ghost use Rattle.cl_history.specs.Headers.{AreHeadersAt};
+    ghost use Rattle.cl_core.specs.Standing.{IsIdle, StandsFor, jobs_started, journal_of, past_of};
 
-    /// A session in which nothing has happened. It takes no memory.
-    pub fn new(alloc: Global) -> Core
-        ensures stands { (messages : List Parsed) → StandsFor messages result }
-        ensures journal { journal_of result ≡ [] }
-        ensures idle { IsIdle result }
+    /// A session in which nothing has happened.
+    pub fn new(alloc: Global, config: &Config) -> Mem<Core>
+        ensures stands { IfOk result (λ core. (given : Given) → given.config ≡ config.now → StandsFor given core) }
+        ensures journal { IfOk result (λ core. journal_of core ≡ []) }
+        ensures idle { IfOk result (λ core. IsIdle core) }
+        ensures jobs { IfOk result (λ core. jobs_started core ≡ 0) }
     {
-        Core {
+        let config = config.duplicate(alloc)?;
+        let headers = HeaderMap::new(alloc)?;
+        Ok(Core {
             state: State {
+                config,
                 initialised: false,
                 shut_down: false,
                 docs: Docs::new(alloc),
+                headers,
                 pending: Pending::new(alloc),
+                awaited: None,
                 messages: 0,
+                loads: 0,
                 jobs: 0,
                 ending: None,
                 finished: false,
                 journal: List::new(alloc),
             },
-        }
+        })
     }
 
     /// The entries so far, the oldest first.
@@ -75,12 +94,12 @@ impl Core {
         &self.state.journal
     }
 
-    /// What is known of the headers of the session. No header is read yet, so nothing is known of any path.
+    /// What is known of headers: the texts of the open documents, and the answers of the reads of other paths with no
+    /// change of the header since.
     pub fn headers(&self, alloc: Global) -> Mem<HeaderMap>
-        ensures { IfOk result (λ headers. (path : List ℕ) → known_at headers path ≡ None) }
+        ensures { IfOk result (λ headers. (given : Given) → StandsFor given self.now → AreHeadersAt given (past_of self.now) headers) }
     {
-        let _core = self;
-        let headers = HeaderMap::new(alloc)?;
+        let headers = self.state.headers.duplicate(alloc)?;
         Ok(headers)
     }
 

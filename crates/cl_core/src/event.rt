@@ -1,16 +1,6 @@
-use cl_query::{Done, Job};
-use cl_rpc::{How, Parsed, Reply};
-
-/// An entry of the journal: the n-th message was taken, the n-th header was read, or the message of this number got
-/// its reply or its notification. `mark` is the length of the journal when the state that the reply rests on was
-/// taken. Numbers are from 0.
-#[derive(Clone, Copy, PartialEq, Eq)]
-pub enum Entry {
-    In(u64),
-    Load(u64),
-    Reply { message: u64, mark: u64, how: How },
-    Notify { message: u64, mark: u64 },
-}
+use cl_base::{Path, Read};
+use cl_query::{Done, Job, Need};
+use cl_rpc::{Parsed, Reply};
 
 /// How the input ended.
 #[derive(Clone, Copy, PartialEq, Eq)]
@@ -32,8 +22,12 @@ pub enum Ending {
 pub enum Event {
     /// A message was taken.
     Message(Parsed),
+    /// The header of this path was read. It comes next after the effect `Load` of this path.
+    Loaded(Path, Read),
     /// A job was done.
     Done(Done),
+    /// A job needs a header that its snapshot doesn't know.
+    Need(Need),
     /// A job could not be done for want of memory.
     NoMemory(Job),
     /// The input ended.
@@ -47,6 +41,8 @@ pub enum Effect {
     Reply(Reply),
     /// Do this job.
     StartJob(Job),
+    /// Read the header of this path. The next event is its `Loaded`.
+    Load(Path),
     /// End with this status.
     Finish(u8),
 }

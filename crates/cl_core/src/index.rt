@@ -4,8 +4,8 @@ ghost use Rattle.std.specs.Prelude.{◌≡◌, List, ℕ, ◌∷◌, [], ◌++�
 ghost use Rattle.std.specs.List.{AllByRecursion};
 ghost use Rattle.std.specs.Str.{bytes_eq};
 ghost use Rattle.cl_rpc.specs.declared.id.Id.{Id};
-ghost use Rattle.cl_core.specs.History.{without};
-ghost use Rattle.cl_core.specs.Waiting.{same_id};
+ghost use Rattle.cl_history.specs.History.{without};
+ghost use Rattle.cl_rpc.specs.Classes.{same_id};
 ghost use Rattle.cl_core.specs.Indexes.{message_by, messages_on};
 
 use cl_base::{Duplicate, Mem, Path};

@@ -1,12 +1,13 @@
 ghost use Rattle.std.specs.Prelude.{◌≡◌, IfOk, OnErr};
-ghost use Rattle.cl_core.specs.Steps.{Completes, IsAsBefore};
+ghost use Rattle.cl_core.specs.Steps.{Completes};
 
 use crate::core_state::State;
-use crate::event::{Effect, Entry};
+use crate::event::Effect;
 use crate::note::{finishes, with_finish};
 use crate::replies::one;
 use crate::waiting::Which;
 use cl_base::{Duplicate, List, Mem};
+use cl_history::Entry;
 use cl_query::Job;
 use cl_rpc::{How, Out, Reply};
 use std::alloc::Global;
@@ -21,7 +22,7 @@ pub fn complete(
     out: Out,
 ) -> Mem<List<Effect>>
     ensures ok { IfOk result (λ effects. Completes core.old job.now mark how out core.new effects) }
-    ensures err { OnErr result (IsAsBefore core.old core.new) }
+    ensures err { OnErr result (core.new ≡ core.old) }
 {
     let waiting = match core.pending.waiting_for(job) {
         Some(waiting) => waiting,

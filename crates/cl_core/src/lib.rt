@@ -1,23 +1,28 @@
 //! The session's core: a state machine over events that alone decides which reply a message gets, which jobs are
-//! started and what the journal becomes. It knows no bytes, no JSON, no thread and nothing of C.
+//! started, which headers are read and what the journal becomes. It knows no bytes, no JSON, no thread, no single query
+//! and nothing of C.
 #![tactic(auto)]
 
+mod apply;
 mod core_state;
-mod edits;
+mod decide;
+mod decision;
 mod ending;
 mod event;
+mod headers;
 mod index;
 mod job_end;
 mod laws;
+mod need;
 mod note;
 mod pending;
 mod refusal;
 mod replies;
-mod start;
 mod step;
-mod take;
 mod waiting;
+mod work;
 
+pub use cl_history::Entry;
 pub use core_state::Core;
-pub use event::{Effect, Ending, Entry, Event};
-pub use laws::{any_run, one_reply};
+pub use event::{Effect, Ending, Event};
+pub use laws::{any_run, one_reply, standard_words};

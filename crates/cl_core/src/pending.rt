@@ -5,13 +5,14 @@ ghost use Rattle.std.specs.Prelude.{◌≡◌, ◌<◌, ◌+◌, ◌∷◌, [], 
 ghost use Rattle.std.specs.List.{AllByRecursion, list_any};
 ghost use Rattle.std.specs.Option.{option_copied};
 ghost use Rattle.cl_core.specs.declared.waiting.Waiting.{Waiting};
-ghost use Rattle.cl_core.specs.Waiting.{has_id, is_meant};
-ghost use Rattle.cl_core.specs.Indexes.{number_of, found_in};
-ghost use Rattle.cl_core.specs.Steps.{is_nil};
+ghost use Rattle.cl_core.specs.Waiting.{has_id, is_meant, number_of};
+ghost use Rattle.cl_core.specs.Indexes.{found_in};
+ghost use Rattle.cl_core.specs.Steps.{again, begun_again, is_nil};
 
 use crate::index::{Documents, Ids};
 use crate::waiting::{Waiting, Which};
-use cl_base::{Mem, Memory};
+use cl_base::{Duplicate, Mem, Memory};
+use cl_headers::HeaderMap;
 use cl_query::Job;
 use cl_rpc::Id;
 use std::alloc::Global;
@@ -187,6 +188,20 @@ impl Pending {
         }
     }
 
+    /// Begins the job of the request that this message made again, with this number and mark and over these headers, or
+    /// changes nothing.
+    pub fn begin_again(&mut self, alloc: Global, message: u64, number: u64, mark: u64, headers: &HeaderMap) -> Mem<()>
+        ensures ok { OnOk result (self.new ≡ begun_again message number mark headers.now self.old) }
+        ensures err { OnErr result (self.new ≡ self.old) }
+    {
+        let Some(waiting) = self.waiting.get(&message) else {
+            return Ok(());
+        };
+        let again = begun(alloc, waiting, number, mark, headers)?;
+        self.waiting.insert(message, again)?;
+        Ok(())
+    }
+
     /// Lets those go that are meant.
     pub fn release(&mut self, which: &Which<'_>)
         ensures { self.new ≡ filter (λ waiting. not (is_meant which.now waiting)) self.old }
@@ -194,6 +209,45 @@ impl Pending {
         while let Some(message) = self.first(which) {
             self.remove(message);
         }
+    }
+}
+
+/// The request with its job begun again.
+fn begun(alloc: Global, waiting: &Waiting, number: u64, mark: u64, headers: &HeaderMap) -> Mem<Waiting>
+    ensures { IfOk result (λ after. after ≡ record waiting.now { job = again number mark headers.now waiting.now.job }) }
+{
+    let id = waiting.id.duplicate(alloc)?;
+    let job = waiting.job.duplicate(alloc)?;
+    let headers = headers.duplicate(alloc)?;
+    let job = job_again(job, number, mark, headers);
+    Ok(Waiting { id, job })
+}
+
+/// The job with another number, mark and snapshot.
+pub fn job_again(job: Job, number: u64, mark: u64, headers: HeaderMap) -> Job
+    ensures { result ≡ again number mark headers job }
+{
+    let Job {
+        number: _,
+        message,
+        mark: _,
+        path,
+        version,
+        text,
+        config,
+        headers: _,
+        kind,
+    } = job;
+    Job {
+        number,
+        message,
+        mark,
+        path,
+        version,
+        text,
+        config,
+        headers,
+        kind,
     }
 }
 

@@ -2,7 +2,8 @@ use cl_base::Path;
 use cl_query::Job;
 use cl_rpc::Id;
 
-/// A query request that waits for its reply, and the job that is out for it.
+/// A query request that waits for its reply, and its job: the one that is out for it, or the one that needs the header
+/// that is awaited.
 #[derive(Drop)]
 pub struct Waiting {
     pub id: Id,

@@ -3,7 +3,7 @@
 //! `ask-text` and `cancel-text` have one that is a text, and `done` has the number of a job, from 0, in the order in
 //! which the jobs were started.
 
-use cl_base::{Answer, Duplicate, List, Mem, Path, Text};
+use cl_base::{Answer, Config, Duplicate, List, Mem, Path, Text};
 use cl_core::{Core, Effect, Ending, Event};
 use cl_query::{Job, JobAnswer, run_job};
 use cl_rpc::{Call, Id, Out, Parsed, Reply};
@@ -31,14 +31,17 @@ fn sessions(rt: HostRuntime) -> Result<(), Fail> {
     let length = core.journal().len();
     let headers = core.headers(alloc)?;
     let path = Path::new(alloc, "/a.c")?;
-    assert!(rt; headers.get(&path).is_none(), "no header is known");
+    assert!(rt; headers.get(&path).is_some(), "an open document is known");
+    let header = Path::new(alloc, "/a.h")?;
+    assert!(rt; headers.get(&header).is_none(), "no other header is known");
     assert!(rt; core.into_journal().len() == length);
     Ok(())
 }
 
 /// A session in which `/a.c` is open.
 fn fresh(alloc: Global) -> Mem<Session> {
-    let mut core = Core::new(alloc);
+    let config = Config::new(alloc, List::new(alloc), List::new(alloc))?;
+    let mut core = Core::new(alloc, &config)?;
     let id = Id::Number(0);
     let call = Call::Initialize;
     core.step(alloc, Event::Message(Parsed::Request { id, call }))?;
@@ -86,11 +89,11 @@ fn event_of(alloc: Global, jobs: &[Job], line: &str) -> Mem<Event> {
     })
 }
 
-fn request(id: Id, call: Call) -> Event {
+pub fn request(id: Id, call: Call) -> Event {
     Event::Message(Parsed::Request { id, call })
 }
 
-fn notification(call: Call) -> Event {
+pub fn notification(call: Call) -> Event {
     Event::Message(Parsed::Notification(call))
 }
 
@@ -101,7 +104,7 @@ fn end_of(alloc: Global, jobs: &[Job], number: u8) -> Mem<Event> {
     };
     Ok(match run_job(alloc, job.duplicate(alloc)?) {
         JobAnswer::Done(done) => Event::Done(done),
-        JobAnswer::Need(need) => Event::NoMemory(need.job),
+        JobAnswer::Need(need) => Event::Need(need),
         JobAnswer::Memory(job) => Event::NoMemory(job),
     })
 }
@@ -111,7 +114,7 @@ fn text_id(alloc: Global, byte: u8) -> Mem<Id> {
     Ok(Id::Text(text))
 }
 
-fn digit_of(text: &str) -> u8 {
+pub fn digit_of(text: &str) -> u8 {
     match text.as_bytes() {
         [digit, ..] => digit.saturating_sub(48),
         [] => 0,
@@ -119,7 +122,7 @@ fn digit_of(text: &str) -> u8 {
 }
 
 /// Keeps the jobs that are started.
-fn keep_jobs(alloc: Global, jobs: &mut Vec<Job>, effects: &[Effect]) -> Mem<()> {
+pub fn keep_jobs(alloc: Global, jobs: &mut Vec<Job>, effects: &[Effect]) -> Mem<()> {
     for effect in effects {
         if let Effect::StartJob(job) = effect {
             jobs.push(job.duplicate(alloc)?)?;
@@ -135,6 +138,7 @@ fn told(alloc: Global, effects: &[Effect]) -> Mem<String> {
         let word = match effect {
             Effect::Reply(reply) => reply_told(alloc, reply)?,
             Effect::StartJob(_) => String::from_str(alloc, "job.")?,
+            Effect::Load(path) => format!(in alloc; "load {}.", path.text())?,
             Effect::Finish(status) => format!(in alloc; "finish {status}.")?,
         };
         line.push_str(word.as_str())?;

@@ -1,10 +1,11 @@
-ghost use Rattle.std.specs.Prelude.{◌≡◌, ◌↔◌, ℕ, List, None, Some, OnOk, OnErr, IfOk, IsSome};
+ghost use Rattle.std.specs.Prelude.{◌≡◌, ◌↔◌, [], None, Some, OnOk, OnErr, IfOk, IsSome};
 ghost use Rattle.std.specs.Option.{option_copied};
 ghost use Rattle.cl_store.specs.Docs.{Puts, doc_at};
 
 use cl_base::{Duplicate, Mem, Path, Text};
 use std::alloc::Global;
 use std::collections::BTreeMap;
+use std::marker::Model;
 
 /// A document: the version that its editor gave it, and its text.
 #[derive(Drop)]
@@ -40,10 +41,25 @@ pub struct Docs {
     entries: BTreeMap<Path, Doc>,
 }
 
+impl Model for Docs {
+    ghost use Rattle.std.specs.Prelude.{List, ℕ};
+    ghost use Rattle.std.specs.List.Sorted.{IsStrictlySortedBy};
+    ghost use Rattle.std.specs.Map.{keys_of};
+    ghost use Rattle.std.specs.Ordering.{nat_cmp};
+    ghost use Rattle.std.specs.Cmp.Lexicographic.{slice_cmp};
+    ghost use Rattle.cl_store.specs.declared.docs.Doc.{Doc};
+
+    ghost Value = { List (List ℕ × Doc) };
+
+    ghost view = { λ it. it.entries.entries };
+
+    ghost invariant = { λ it. IsStrictlySortedBy (slice_cmp nat_cmp) (keys_of it.entries.entries) };
+}
+
 impl Docs {
     /// No document is open. It takes no memory.
     pub fn new(alloc: Global) -> Docs
-        ensures { (path : List ℕ) → doc_at result path ≡ None }
+        ensures { result ≡ [] }
     {
         Docs {
             entries: BTreeMap::new(alloc),
@@ -54,7 +70,7 @@ impl Docs {
     pub fn open(&mut self, path: Path, version: i64, text: Text) -> Mem<Opened>
         ensures ok { OnOk result (Puts self.old self.new path (Some (record { version = version; text = text }))) }
         ensures again { IfOk result (λ opened. (opened ≡ Opened.Again) ↔ IsSome (doc_at self.old path)) }
-        ensures err { OnErr result ((q : List ℕ) → doc_at self.new q ≡ doc_at self.old q) }
+        ensures err { OnErr result (self.new ≡ self.old) }
     {
         match self.entries.insert(path, Doc { version, text })? {
             Some(_) => Ok(Opened::Again),
@@ -66,8 +82,8 @@ impl Docs {
     pub fn change(&mut self, alloc: Global, path: &Path, version: i64, text: Text) -> Mem<Changed>
         ensures done { IfOk result (λ changed. changed ≡ Changed.Done → Puts self.old self.new path.now (Some (record { version = version; text = text }))) }
         ensures open { IfOk result (λ changed. (changed ≡ Changed.Done) ↔ IsSome (doc_at self.old path.now)) }
-        ensures closed { IfOk result (λ changed. changed ≡ Changed.NotOpen → (q : List ℕ) → doc_at self.new q ≡ doc_at self.old q) }
-        ensures err { OnErr result ((q : List ℕ) → doc_at self.new q ≡ doc_at self.old q) }
+        ensures closed { IfOk result (λ changed. changed ≡ Changed.NotOpen → self.new ≡ self.old) }
+        ensures err { OnErr result (self.new ≡ self.old) }
     {
         if !self.entries.contains_key(path) {
             return Ok(Changed::NotOpen);

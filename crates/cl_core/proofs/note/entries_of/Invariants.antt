@@ -1,5 +1,5 @@
 use Rattle.std.proofs.Common.{◌≡◌, ◌∷◌, ◌++◌, drop}
-use Rattle.cl_core.specs.declared.event.Entry.TheVariants.{In}
+use Rattle.cl_history.specs.declared.entry.Entry.TheVariants.{In}
 use Rattle.cl_core.specs.Steps.{entries_of}
 use Rattle.cl_core.proofs.note.entries_of.Given as goal
 

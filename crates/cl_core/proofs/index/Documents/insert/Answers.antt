@@ -5,7 +5,7 @@ use Rattle.std.specs.Cmp.Lexicographic.{slice_cmp}
 use Rattle.std.specs.BTreeMap.{get}
 use Rattle.std.specs.Str.{bytes_eq}
 use Rattle.cl_core.specs.Indexes.{messages_on}
-use Rattle.cl_core.proofs.Kept.{on_err}
+use Rattle.cl_core.proofs.Waits.{on_err}
 use Rattle.cl_core.proofs.Putting.{same_groups, group_put, group_there, group_becomes, if_same, put_last}
 use Rattle.cl_core.proofs.index.Documents.insert.Goals as goal
 

@@ -5,7 +5,7 @@ use Rattle.std.specs.Cmp.Lexicographic.{slice_cmp}
 use Rattle.std.specs.BTreeMap.{get}
 use Rattle.std.proofs.lemmas.List.{nil_from_length}
 use Rattle.std.specs.Str.{bytes_eq}
-use Rattle.cl_core.specs.History.{without}
+use Rattle.cl_history.specs.History.{without}
 use Rattle.cl_core.specs.Indexes.{messages_on}
 use Rattle.cl_core.proofs.Putting.{if_again, group_put, group_there, group_becomes, let_go}
 use Rattle.cl_core.proofs.index.Documents.remove.Goals as goal

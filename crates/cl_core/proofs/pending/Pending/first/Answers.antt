@@ -2,8 +2,9 @@ use Rattle.std.proofs.Common.{◌≡◌, sym, ap, ◌∙◌, List, ℕ, map, fil
 use Rattle.std.specs.Prelude.{option_to_list, slice_get}
 use Rattle.std.specs.Str.{bytes_eq}
 use Rattle.std.specs.BTreeMap.{values}
-use Rattle.cl_core.specs.Waiting.{same_id}
-use Rattle.cl_core.specs.Indexes.{message_by, number_of}
+use Rattle.cl_rpc.specs.Classes.{same_id}
+use Rattle.cl_core.specs.Waiting.{number_of}
+use Rattle.cl_core.specs.Indexes.{message_by}
 use Rattle.cl_core.proofs.Indexed.{head_of, alone}
 use Rattle.cl_core.proofs.pending.Pending.first.Goals as goal
 

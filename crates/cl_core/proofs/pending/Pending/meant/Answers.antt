@@ -1,7 +1,7 @@
 use Rattle.std.proofs.Common.{◌≡◌, ap, ◌∙◌, map, filter}
 use Rattle.std.specs.BTreeMap.{values}
-use Rattle.cl_core.specs.Waiting.{is_meant}
-use Rattle.cl_core.specs.Indexes.{number_of, found_in}
+use Rattle.cl_core.specs.Waiting.{is_meant, number_of}
+use Rattle.cl_core.specs.Indexes.{found_in}
 use Rattle.cl_core.proofs.Indexed.{found_all}
 use Rattle.cl_core.proofs.pending.Pending.meant.Goals as goal
 

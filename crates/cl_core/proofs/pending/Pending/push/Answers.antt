@@ -5,8 +5,9 @@ use Rattle.std.specs.Str.{bytes_eq}
 use Rattle.std.specs.BTreeMap.{values}
 use Rattle.std.specs.Map.{values_of}
 use Rattle.cl_rpc.specs.declared.id.Id.{Id}
-use Rattle.cl_core.specs.Waiting.{has_id, same_id}
-use Rattle.cl_core.specs.History.{without}
+use Rattle.cl_rpc.specs.Classes.{same_id}
+use Rattle.cl_core.specs.Waiting.{has_id}
+use Rattle.cl_history.specs.History.{without}
 use Rattle.cl_core.specs.Indexes.{message_by, messages_on}
 use Rattle.cl_core.specs.declared.waiting.Waiting.{Waiting}
 use Rattle.cl_core.proofs.Indexed.{Below, numbers_below, pushed, values_more, taken_back, document_back}

@@ -2,8 +2,8 @@ use Rattle.std.proofs.Common.{◌≡◌, sym, ◌∙◌, rules, map, filter, tru
 use Rattle.std.specs.Prelude.{None, slice_get}
 use Rattle.std.specs.List.{AllByRecursion}
 use Rattle.cl_core.specs.declared.waiting.Waiting.{Waiting}
-use Rattle.cl_core.specs.Waiting.{is_meant}
-use Rattle.cl_core.specs.Indexes.{number_of}
+use Rattle.cl_core.specs.Waiting.{is_meant, number_of}
+use Rattle.cl_core.specs.Waiting.{number_of}
 use Rattle.cl_core.proofs.Indexed.{passed_over, fewer, none_meant}
 use Rattle.cl_core.proofs.pending.Pending.release.Goals as goal
 
