@@ -79,7 +79,11 @@ fn a_source_hands_on_what_is_read(rt: HostRuntime) -> Result<(), Fail> {
         };
         let (read, faults) = all_of(alloc, &mut source)?;
         assert!(rt; read == bytes, "with a fault at {fails}");
-        assert_eq!(rt; faults, u32::from(fails != usize::MAX), "with a fault at {fails}");
+        assert_eq!(rt;
+            faults,
+            u32::from(fails != usize::MAX),
+            "with a fault at {fails}"
+        );
     }
     Ok(())
 }
@@ -101,9 +105,16 @@ fn a_sink_hands_down_what_is_written(rt: HostRuntime) -> Result<(), Fail> {
             Written::Failed { taken } => taken as usize,
         };
         drop(sink);
-        assert_eq!(rt; taken == bytes.len(), fails == usize::MAX, "with a fault at {fails}");
+        assert_eq!(rt;
+            taken == bytes.len(),
+            fails == usize::MAX,
+            "with a fault at {fails}"
+        );
         assert_eq!(rt; held.len(), taken, "with a fault at {fails}");
-        assert!(rt; bytes.as_slice().starts_with(held.as_slice()), "with a fault at {fails}");
+        assert!(rt;
+            bytes.as_slice().starts_with(held.as_slice()),
+            "with a fault at {fails}"
+        );
     }
     Ok(())
 }

@@ -34,7 +34,10 @@ fn a_body_of_a_megabyte(rt: HostRuntime) -> Result<(), Fail> {
     let Parsed::Notification(Call::DidOpen(path, version, text)) = message else {
         return Err(Fail::from("another call"));
     };
-    assert_eq!(rt; (path.text().len(), version, text.bytes().len()), (NAME, 7, BODY));
+    assert_eq!(rt;
+        (path.text().len(), version, text.bytes().len()),
+        (NAME, 7, BODY)
+    );
     let mut sink = MemorySink::new(alloc, 65_536, [].as_slice()).map_err(|_| "memory")?;
     assert_eq!(rt; write_frame(&mut sink, &text), Written::All);
     assert_eq!(rt; sink.held().len(), BODY);
@@ -62,7 +65,8 @@ fn a_reply_of_many_symbols(rt: HostRuntime) -> Result<(), Fail> {
     };
     let wanted = format!(in alloc; "Content-Length: {}", body.len())?;
     assert_eq!(rt; header, wanted.as_str());
-    let symbol = "{\"kind\":13,\"name\":\"x\",\"range\":{\"end\":{\"character\":6,\"line\":4},\"start\":{\"character\":0,\"line\":4}},\"selectionRange\":{\"end\":{\"character\":5,\"line\":4},\"start\":{\"character\":4,\"line\":4}}}";
+    let symbol =
+        "{\"kind\":13,\"name\":\"x\",\"range\":{\"end\":{\"character\":6,\"line\":4},\"start\":{\"character\":0,\"line\":4}},\"selectionRange\":{\"end\":{\"character\":5,\"line\":4},\"start\":{\"character\":4,\"line\":4}}}";
     let rest = body.strip_prefix("{\"id\":1,\"jsonrpc\":\"2.0\",\"result\":[");
     let Some(list) = rest.and_then(|rest| rest.strip_suffix("]}")) else {
         return Err(Fail::from("another body"));
@@ -73,7 +77,10 @@ fn a_reply_of_many_symbols(rt: HostRuntime) -> Result<(), Fail> {
         assert!(rt; symbol.contains(piece), "{piece}");
     }
     assert_eq!(rt; count, SYMBOLS);
-    assert_eq!(rt; list.len(), SYMBOLS.saturating_mul(symbol.len() + 1).saturating_sub(1));
+    assert_eq!(rt;
+        list.len(),
+        SYMBOLS.saturating_mul(symbol.len() + 1).saturating_sub(1)
+    );
     Ok(())
 }
 
