@@ -4,7 +4,7 @@ use Rattle.std.specs.Prelude.{Option, if◌then◌else◌}
 use Rattle.cl_frames.specs.Sessions.{SplitsInto, edge, bad, long, after_last}
 use Rattle.cl_frames.specs.Sessions as frames
 use Rattle.cl_frames.proofs.SessionLemmas.{one_split}
-use Rattle.cl_core.specs.declared.event.Entry.{Entry}
+use Rattle.cl_history.specs.declared.entry.Entry.{Entry}
 use Rattle.clsd.specs.Sessions.{Close, at_exit, at_edge, at_bad, at_long, at_source, at_sink, at_memory, Session, StatusIs, LeavesUnread, is_last, RanToTheEnd}
 
 -- bytes that split up to an `exit` don't end otherwise

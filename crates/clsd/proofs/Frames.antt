@@ -17,6 +17,7 @@ from_here es i e lt is = rw (add-one i) (drop-cons es i e lt ∙ ap (λ (x : Eff
 one_more : (e : Effect) (es : List Effect) → frames_of (e ∷ es) ≡ frame_of e ++ frames_of es
 one_more (effect.Reply r) es = refl
 one_more (effect.StartJob job) es = refl
+one_more (effect.Load path) es = refl
 one_more (effect.Finish status) es = refl
 
 -- the frames of the effects from the i-th on begin with its frame

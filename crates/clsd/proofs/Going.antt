@@ -8,38 +8,39 @@ use Rattle.cl_frames.specs.Sessions as frames
 use Rattle.cl_frames.proofs.SessionLemmas.{front_nil, front_more, front_last, front_end, some_split, ends_wrong, ends_cut, ends_long}
 use Rattle.cl_base.specs.declared.memory.Memory.{Memory as NoMemory}
 use Rattle.cl_frames.specs.declared.frame.Frame.TheVariants.{Body, End, Bad, Failed, Long, Memory}
-use Rattle.cl_rpc.specs.declared.call.Parsed.{Parsed}
 use Rattle.cl_rpc.specs.Messages.{message_in}
 use Rattle.cl_core.specs.declared.core_state.Core.{Core}
-use Rattle.cl_core.specs.declared.event.Entry.{Entry}
+use Rattle.cl_history.specs.declared.entry.Entry.{Entry}
 use Rattle.cl_core.specs.declared.event.Ending.{Ending}
 use Rattle.cl_core.specs.declared.event.Ending.TheVariants as ending
-use Rattle.cl_core.specs.declared.waiting.Waiting.{Waiting}
-use Rattle.cl_core.specs.History.{is_shut_down, pending, received}
-use Rattle.cl_core.specs.Legal.{IsSettled}
-use Rattle.cl_core.specs.Written.{Writes}
+use Rattle.cl_rpc.specs.Classes.{class_of}
+use Rattle.cl_query.specs.AnswerOf.{AnswerOf}
+use Rattle.cl_history.specs.Given.{Given, received}
+use Rattle.cl_history.specs.History.{is_shut_down, pending}
+use Rattle.cl_history.specs.Legal.{IsSettled}
+use Rattle.cl_history.specs.Written.{Writes}
 use Rattle.cl_core.specs.Steps.{is_exit, status_of}
-use Rattle.cl_core.specs.Standing.{IsIdle, StandsFor, journal_of, jobs_out, past_of}
+use Rattle.cl_core.specs.Standing.{IsIdle, StandsFor, journal_of, past_of}
 use Rattle.clsd.proofs.InTime.{all_in_time}
 use Rattle.clsd.specs.Serving.{ended_with, EndsInput, Holds, IsCutOff, IsOver, Keeps, LeavesIdle, Turns}
 use Rattle.clsd.specs.declared.turn.Turn.{Turn}
 use Rattle.clsd.specs.declared.turn.Turn.TheVariants.{Ends, SinkFailed, GoesOn}
-use Rattle.clsd.specs.Sessions.{Close, at_exit, at_edge, at_bad, at_long, at_source, at_sink, at_memory, NoneLast, SerialSession, StatusIs, LeavesUnread, is_last, is_whole, messages_in}
+use Rattle.clsd.specs.Sessions.{Close, at_exit, at_edge, at_bad, at_long, at_source, at_sink, at_memory, NoneLast, SerialSession, StatusIs, LeavesUnread, given_of, is_last, is_whole, no_settings}
 
--- what holds before each frame: the bytes that were taken are the frames of the bodies that were given, and the core
+-- what holds before each frame: the bytes that were taken are the frames of the bodies that were bodies, and the core
 -- and the sink stand for these, whatever comes
 pub record Goes (bytes : List ℕ) (taken : ℕ) (left held : Option (List ℕ)) (core : Core) : Type 0 where
   pub front : List ℕ
   pub behind : List ℕ
-  pub given : List (List ℕ)
+  pub bodies : List (List ℕ)
   pub parts : bytes ≡ front ++ behind
   pub left_is : left ≡ Some behind
   pub taken_is : taken ≡ length front
-  pub is_front : IsFront is_last front given
-  pub count : core.messages ≡ length given
+  pub is_front : IsFront is_last front bodies
+  pub count : core.messages ≡ length bodies
   pub now : List ℕ
   pub held_is : held ≡ Some now
-  pub keeps : (more : List (List ℕ)) → Keeps (messages_in (given ++ more)) core now
+  pub keeps : (more : List (List ℕ)) → Keeps (given_of (bodies ++ more)) core now
 
 -- ---- small facts
 
@@ -49,33 +50,24 @@ false_is e = absurd (cc)
 pub holds_at : (held : Option (List ℕ)) (P : List ℕ → Type 0) (a : List ℕ) → held ≡ Some a → Holds held P → P a
 holds_at held P a told h = let same : h.0 ≡ a = cc in subst P same h.2
 
-pub found : (given more : List (List ℕ)) (body : List ℕ) (n : ℕ) → n ≡ length given → slice_get (messages_in (given ++ body ∷ more)) n ≡ Some (message_in body)
+pub found : (bodies more : List (List ℕ)) (body : List ℕ) (n : ℕ) → n ≡ length bodies → slice_get (given_of (bodies ++ body ∷ more)).messages n ≡ Some (message_in body)
 found [] more body n e = rw e refl
-found (x ∷ given) more body n e = rw e (found given more body (length given) refl)
+found (x ∷ bodies) more body n e = rw e (found bodies more body (length bodies) refl)
 
-with_one : (given more : List (List ℕ)) (body : List ℕ) → (given ++ body ∷ []) ++ more ≡ given ++ body ∷ more
-with_one given more body = append_assoc given (body ∷ []) more
+with_one : (bodies more : List (List ℕ)) (body : List ℕ) → (bodies ++ body ∷ []) ++ more ≡ bodies ++ body ∷ more
+with_one bodies more body = append_assoc bodies (body ∷ []) more
 
-length-one : (given : List (List ℕ)) (body : List ℕ) → length (given ++ body ∷ []) ≡ length given + 1
-length-one given body = length-append given (body ∷ [])
-
-none_mapped : {X Y : Type 0} (f : X → Y) (xs : List X) → map f xs ≡ [] → xs ≡ []
-none_mapped f [] e = refl
-none_mapped f (x ∷ xs) e = absurd (cc)
-
--- where no job is out no request is pending
-none_pending : (messages : List Parsed) (core : Core) → StandsFor messages core → jobs_out core ≡ [] → pending messages (past_of core) ≡ []
-none_pending messages core stands none =
-    sym stands.waiting ∙ ap (map (λ (w : Waiting). w.job.message)) (none_mapped (λ (w : Waiting). w.job) core.pending none)
+length-one : (bodies : List (List ℕ)) (body : List ℕ) → length (bodies ++ body ∷ []) ≡ length bodies + 1
+length-one bodies body = length-append bodies (body ∷ [])
 
 -- ---- a session that ended
 
 pub sealed : (bytes taken rest : List ℕ) (left held : Option (List ℕ)) (bodies : List (List ℕ)) (ends : frames.Ending) (close : Close) (core : Core) (now unwritten : List ℕ) (code offset : ℕ)
     → bytes ≡ taken ++ rest → left ≡ Some rest → SplitsInto is_last 0 taken bodies ends
-    → StandsFor (messages_in bodies) core → core.messages ≤ length bodies → (IsTrue (is_whole close) → core.messages ≡ length bodies)
-    → held ≡ Some now → Writes (messages_in bodies) (past_of core) (now ++ unwritten) → (IsTrue (is_whole close) → unwritten ≡ [])
-    → IsSettled (messages_in bodies) (past_of core) → (IsTrue (is_whole close) → jobs_out core ≡ [])
-    → StatusIs close (is_shut_down (messages_in bodies) (past_of core)) ends code offset → LeavesUnread close bytes taken rest bodies offset
+    → StandsFor (given_of bodies) core → core.messages ≤ length bodies → (IsTrue (is_whole close) → core.messages ≡ length bodies)
+    → held ≡ Some now → Writes AnswerOf (given_of bodies) (past_of core) (now ++ unwritten) → (IsTrue (is_whole close) → unwritten ≡ [])
+    → IsSettled (given_of bodies) (past_of core) → (IsTrue (is_whole close) → pending (given_of bodies) (past_of core) ≡ [])
+    → StatusIs close (is_shut_down (given_of bodies) (past_of core)) ends code offset → LeavesUnread close bytes taken rest bodies offset
     → SerialSession bytes left held (journal_of core) code offset
 sealed bytes taken rest left held bodies ends close core now unwritten code offset parts left_is framed stands few all held_is writes filled settled none status unread = record {
   session = record {
@@ -94,11 +86,11 @@ sealed bytes taken rest left held bodies ends close core now unwritten code offs
     legal = record { follow = stands.follow; none_due = stands.none_due };
     written = record { now = now; unwritten = unwritten; held_is = held_is; writes = writes; all = filled };
     status = status;
-    whole = λ e. none_pending (messages_in bodies) core stands (none e);
+    whole = none;
     unread = unread;
   };
   settled = settled;
-  in_time = all_in_time (messages_in bodies) (past_of core) stands.follow settled;
+  in_time = all_in_time (given_of bodies) (past_of core) stands.follow settled;
 }
 
 -- it ended where the input did, or for want of memory
@@ -106,12 +98,12 @@ pub ended_input : (bytes taken rest : List ℕ) (left held : Option (List ℕ)) 
     → bytes ≡ taken ++ rest → left ≡ Some rest → SplitsInto is_last 0 taken bodies ends
     → held ≡ Some now → old.messages ≤ length bodies → (IsTrue (is_whole close) → old.messages ≡ length bodies)
     → ((b : Bool) → StatusIs close b ends (status_of how) offset) → LeavesUnread close bytes taken rest bodies offset
-    → EndsInput (messages_in bodies) old how new now res
+    → EndsInput (given_of bodies) old how new now res
     → SerialSession bytes left held (journal_of new) (ended_with res offset).status (ended_with res offset).at
 ended_input bytes taken rest left held bodies ends close old new how now offset (Ok status) parts left_is framed held_is few all stat unread over =
     sealed bytes taken rest left held bodies ends close new now [] status offset parts left_is framed over.1.stands
-    (subst (λ (n : ℕ). n ≤ length bodies) (sym over.2) few) (λ e. over.2 ∙ all e) held_is (rw (append-nil now) over.1.writes) (λ e. refl) over.1.settled (λ e. over.1.none_out)
-    (subst (λ (s : ℕ). StatusIs close (is_shut_down (messages_in bodies) (past_of new)) ends s offset) (sym over.0) (stat (is_shut_down (messages_in bodies) (past_of new)))) unread
+    (subst (λ (n : ℕ). n ≤ length bodies) (sym over.2) few) (λ e. over.2 ∙ all e) held_is (rw (append-nil now) over.1.writes) (λ e. refl) over.1.settled (λ e. over.1.none_pending)
+    (subst (λ (s : ℕ). StatusIs close (is_shut_down (given_of bodies) (past_of new)) ends s offset) (sym over.0) (stat (is_shut_down (given_of bodies) (past_of new)))) unread
 ended_input bytes taken rest left held bodies ends close old new how now offset (Err memory) parts left_is framed held_is few all stat unread off =
     sealed bytes taken rest left held bodies ends at_memory new now off.0.unwritten 7 0 parts left_is framed off.0.stands
     (subst (λ (n : ℕ). n ≤ length bodies) (sym off.1) few) (λ e. absurd (false_is e)) held_is off.0.writes (λ e. absurd (false_is e)) off.0.settled (λ e. absurd (false_is e))
@@ -123,14 +115,14 @@ taken_parts : (bytes front behind : List ℕ) (n : ℕ) → bytes ≡ front ++ b
 taken_parts bytes front behind n parts =
     parts ∙ ap (λ (w : List ℕ). front ++ w) (sym (take-append-drop n behind)) ∙ sym (append_assoc front (take n behind) (drop n behind))
 
--- a frame's body joins those that were given
+-- a frame's body joins those that were bodies
 module _ (bytes : List ℕ) (at now : ℕ) (left0 held0 left : Option (List ℕ)) (old : Core) (text : List ℕ) (g : Goes bytes at left0 held0 old) (room : at < 2 ^ 40)
     (read : ReadsFrame at now g.behind left (Body text)) where
   abbrev pub more_taken : List ℕ
   more_taken = g.front ++ take read.count g.behind
 
   abbrev pub more_given : List (List ℕ)
-  more_given = g.given ++ text ∷ []
+  more_given = g.bodies ++ text ∷ []
 
   length_room : length g.front < 2 ^ 40
   length_room = subst (λ (n : ℕ). n < 2 ^ 40) g.taken_is room
@@ -138,24 +130,24 @@ module _ (bytes : List ℕ) (at now : ℕ) (left0 held0 left : Option (List ℕ)
   begins : first (window (length g.front) g.behind) ≡ whole text read.count
   begins = subst (λ (n : ℕ). first (window n g.behind) ≡ whole text read.count) g.taken_is read.tells
 
-  pub next_found : slice_get (messages_in more_given) old.messages ≡ Some (message_in text)
-  next_found = found g.given [] text old.messages g.count
+  pub next_found : slice_get (given_of more_given).messages old.messages ≡ Some (message_in text)
+  next_found = found g.bodies [] text old.messages g.count
 
-  pub next_keeps : Keeps (messages_in more_given) old g.now
+  pub next_keeps : Keeps (given_of more_given) old g.now
   next_keeps = g.keeps (text ∷ [])
 
   pub next_parts : bytes ≡ more_taken ++ drop read.count g.behind
   next_parts = taken_parts bytes g.front g.behind read.count g.parts
 
   pub next_count : old.messages + 1 ≡ length more_given
-  next_count = ap (λ (n : ℕ). n + 1) g.count ∙ sym (length-one g.given text)
+  next_count = ap (λ (n : ℕ). n + 1) g.count ∙ sym (length-one g.bodies text)
 
   framed_if : (b : Bool) → is_last text ≡ b → (e : frames.Ending) × SplitsInto is_last 0 more_taken more_given e
-  framed_if true e = (after_last [], (front_last is_last g.front g.behind text g.given read.count g.is_front length_room begins e).1)
+  framed_if true e = (after_last [], (front_last is_last g.front g.behind text g.bodies read.count g.is_front length_room begins e).1)
   framed_if false e = (
     edge,
     subst (λ (w : List ℕ). SplitsInto is_last 0 w more_given edge) (append-nil more_taken)
-        (front_end is_last more_taken [] more_given edge (front_more is_last g.front g.behind text g.given read.count g.is_front length_room begins e) refl),
+        (front_end is_last more_taken [] more_given edge (front_more is_last g.front g.behind text g.bodies read.count g.is_front length_room begins e) refl),
   )
 
   pub next_framed : (e : frames.Ending) × SplitsInto is_last 0 more_taken more_given e
@@ -163,18 +155,18 @@ module _ (bytes : List ℕ) (at now : ℕ) (left0 held0 left : Option (List ℕ)
 
   -- the session ends after the body of an `exit`
   pub at_the_exit : (new : Core) (held : Option (List ℕ)) (status : ℕ)
-      → Holds held (IsOver (messages_in more_given) new) → new.messages ≡ old.messages + 1 → is_exit (message_in text) ≡ true
-      → status ≡ (if is_shut_down (messages_in more_given) (past_of new) then 0 else 1)
+      → Holds held (IsOver (given_of more_given) new) → new.messages ≡ old.messages + 1 → is_exit (class_of (message_in text)) ≡ true
+      → status ≡ (if is_shut_down (given_of more_given) (past_of new) then 0 else 1)
       → SerialSession bytes left held (journal_of new) status 0
   at_the_exit new held status over count exits is =
-      let both = front_last is_last g.front g.behind text g.given read.count g.is_front length_room begins exits in
+      let both = front_last is_last g.front g.behind text g.bodies read.count g.is_front length_room begins exits in
       sealed bytes more_taken (drop read.count g.behind) left held more_given (after_last []) at_exit new over.0 [] status 0 next_parts read.left_is both.1 over.2.stands
-      (let same : new.messages ≡ length more_given = count ∙ next_count in omega arith) (λ e. count ∙ next_count) over.1 (rw (append-nil over.0) over.2.writes) (λ e. refl) over.2.settled (λ e. over.2.none_out)
+      (let same : new.messages ≡ length more_given = count ∙ next_count in omega arith) (λ e. count ∙ next_count) over.1 (rw (append-nil over.0) over.2.writes) (λ e. refl) over.2.settled (λ e. over.2.none_pending)
       (is, refl, refl) (subst (λ (w : List ℕ). SplitsInto is_last 0 w more_given (after_last (drop read.count g.behind))) (sym g.parts) both.0)
 
   -- the session is cut off at a message
   pub at_a_cut : (new : Core) (held : Option (List ℕ)) (close : Close) (status : ℕ) → is_whole close ≡ false
-      → Holds held (IsCutOff (messages_in more_given) new) → new.messages ≤ old.messages + 1
+      → Holds held (IsCutOff (given_of more_given) new) → new.messages ≤ old.messages + 1
       → ((b : Bool) (e : frames.Ending) → StatusIs close b e status 0) → LeavesUnread close bytes more_taken (drop read.count g.behind) more_given 0
       → SerialSession bytes left held (journal_of new) status 0
   at_a_cut new held close status short off few stat unread =
@@ -184,27 +176,27 @@ module _ (bytes : List ℕ) (at now : ℕ) (left0 held0 left : Option (List ℕ)
 
   -- the same by how a turn ended
   pub exit_turn : (new : Core) (held : Option (List ℕ)) (turn : Turn) (status : ℕ) → turn ≡ Ends status
-      → ((messages : List Parsed) (was : List ℕ) → slice_get messages old.messages ≡ Some (message_in text) → Keeps messages old was → held0 ≡ Some was → Turns messages old (message_in text) new held (Ok turn))
+      → ((given : Given) (was : List ℕ) → slice_get given.messages old.messages ≡ Some (message_in text) → Keeps given old was → held0 ≡ Some was → Turns given old (message_in text) new held (Ok turn))
       → SerialSession bytes left held (journal_of new) status 0
   exit_turn new held turn status is turns =
-      let four : Turns (messages_in more_given) old (message_in text) new held (Ok (Ends status))
-      = subst (λ (t : Turn). Turns (messages_in more_given) old (message_in text) new held (Ok t)) is (turns (messages_in more_given) g.now next_found next_keeps g.held_is) in
+      let four : Turns (given_of more_given) old (message_in text) new held (Ok (Ends status))
+      = subst (λ (t : Turn). Turns (given_of more_given) old (message_in text) new held (Ok t)) is (turns (given_of more_given) g.now next_found next_keeps g.held_is) in
       at_the_exit new held status four.0 four.1 four.2 four.3
 
   pub sink_turn : (new : Core) (held : Option (List ℕ)) (turn : Turn) → turn ≡ SinkFailed
-      → ((messages : List Parsed) (was : List ℕ) → slice_get messages old.messages ≡ Some (message_in text) → Keeps messages old was → held0 ≡ Some was → Turns messages old (message_in text) new held (Ok turn))
+      → ((given : Given) (was : List ℕ) → slice_get given.messages old.messages ≡ Some (message_in text) → Keeps given old was → held0 ≡ Some was → Turns given old (message_in text) new held (Ok turn))
       → SerialSession bytes left held (journal_of new) 5 0
   sink_turn new held turn is turns =
-      let two : Turns (messages_in more_given) old (message_in text) new held (Ok SinkFailed)
-      = subst (λ (t : Turn). Turns (messages_in more_given) old (message_in text) new held (Ok t)) is (turns (messages_in more_given) g.now next_found next_keeps g.held_is) in
+      let two : Turns (given_of more_given) old (message_in text) new held (Ok SinkFailed)
+      = subst (λ (t : Turn). Turns (given_of more_given) old (message_in text) new held (Ok t)) is (turns (given_of more_given) g.now next_found next_keeps g.held_is) in
       at_a_cut new held at_sink 5 refl two.0 two.1 (λ b e. (refl, refl)) tt
 
   pub memory_turn : (new : Core) (held : Option (List ℕ)) (memory : NoMemory)
-      → ((messages : List Parsed) (was : List ℕ) → slice_get messages old.messages ≡ Some (message_in text) → Keeps messages old was → held0 ≡ Some was → Turns messages old (message_in text) new held (Err memory))
+      → ((given : Given) (was : List ℕ) → slice_get given.messages old.messages ≡ Some (message_in text) → Keeps given old was → held0 ≡ Some was → Turns given old (message_in text) new held (Err memory))
       → SerialSession bytes left held (journal_of new) 7 0
   memory_turn new held memory turns =
-      let two : Turns (messages_in more_given) old (message_in text) new held (Err memory)
-      = turns (messages_in more_given) g.now next_found next_keeps g.held_is in
+      let two : Turns (given_of more_given) old (message_in text) new held (Err memory)
+      = turns (given_of more_given) g.now next_found next_keeps g.held_is in
       at_a_cut new held at_memory 7 refl two.0 two.1 (λ b e. (refl, refl)) tt
 
 -- ---- no further frame
@@ -233,27 +225,27 @@ take_nothing n xs e = rw e (take_none n)
 drop_nothing : (n : ℕ) (xs : List ℕ) → xs ≡ [] → drop n xs ≡ []
 drop_nothing n xs e = rw e (drop_none n)
 
-pub given_keeps : {bytes : List ℕ} {at : ℕ} {left held : Option (List ℕ)} {old : Core} (g : Goes bytes at left held old) → Keeps (messages_in g.given) old g.now
-given_keeps {old = old} g = subst (λ (bodies : List (List ℕ)). Keeps (messages_in bodies) old g.now) (append-nil g.given) (g.keeps [])
+pub given_keeps : {bytes : List ℕ} {at : ℕ} {left held : Option (List ℕ)} {old : Core} (g : Goes bytes at left held old) → Keeps (given_of g.bodies) old g.now
+given_keeps {old = old} g = subst (λ (bodies : List (List ℕ)). Keeps (given_of bodies) old g.now) (append-nil g.bodies) (g.keeps [])
 
 module _ (bytes : List ℕ) (at now : ℕ) (left0 held left : Option (List ℕ)) (old : Core) (g : Goes bytes at left0 held old) (room : at < 2 ^ 40) where
   pub front_room : length g.front < 2 ^ 40
   front_room = subst (λ (n : ℕ). n < 2 ^ 40) g.taken_is room
 
-  few_given : old.messages ≤ length g.given
-  few_given = let same : old.messages ≡ length g.given = g.count in omega arith
+  few_given : old.messages ≤ length g.bodies
+  few_given = let same : old.messages ≡ length g.bodies = g.count in omega arith
 
   -- the session ended with `count` bytes more, which are no frame
   ends_here : (count : ℕ) (ends : frames.Ending) (close : Close) (how : Ending) (offset : ℕ) (new : Core) (res : Result ℕ NoMemory)
       → left ≡ Some (drop count g.behind) → EndsAs (length g.front) (take count g.behind) ends
-      → ((b : Bool) → StatusIs close b ends (status_of how) offset) → LeavesUnread close bytes (g.front ++ take count g.behind) (drop count g.behind) g.given offset
-      → EndsInput (messages_in g.given) old how new g.now res
+      → ((b : Bool) → StatusIs close b ends (status_of how) offset) → LeavesUnread close bytes (g.front ++ take count g.behind) (drop count g.behind) g.bodies offset
+      → EndsInput (given_of g.bodies) old how new g.now res
       → SerialSession bytes left held (journal_of new) (ended_with res offset).status (ended_with res offset).at
   ends_here count ends close how offset new res left_is here stat unread input =
-      ended_input bytes (g.front ++ take count g.behind) (drop count g.behind) left held g.given ends close old new how g.now offset res
-      (taken_parts bytes g.front g.behind count g.parts) left_is (front_end is_last g.front (take count g.behind) g.given ends g.is_front here) g.held_is few_given (λ e. g.count) stat unread input
+      ended_input bytes (g.front ++ take count g.behind) (drop count g.behind) left held g.bodies ends close old new how g.now offset res
+      (taken_parts bytes g.front g.behind count g.parts) left_is (front_end is_last g.front (take count g.behind) g.bodies ends g.is_front here) g.held_is few_given (λ e. g.count) stat unread input
 
-  pub at_the_edge : (new : Core) (res : Result ℕ NoMemory) → ReadsFrame at now g.behind left End → EndsInput (messages_in g.given) old ending.Edge new g.now res
+  pub at_the_edge : (new : Core) (res : Result ℕ NoMemory) → ReadsFrame at now g.behind left End → EndsInput (given_of g.bodies) old ending.Edge new g.now res
       → SerialSession bytes left held (journal_of new) (ended_with res 0).status (ended_with res 0).at
   at_the_edge new res read input =
       ends_here read.count edge at_edge ending.Edge 0 new res read.left_is (take_nothing read.count g.behind read.tells) (λ b. (refl, refl, refl)) (drop_nothing read.count g.behind read.tells) input
@@ -267,114 +259,129 @@ module _ (bytes : List ℕ) (at now : ℕ) (left0 held left : Option (List ℕ))
       let short : EndsAs (length g.front) g.behind (bad offset) = (is, inr (record { some = w.some; part = w.part; room = w.room })) in
       (bad offset, subst (λ (xs : List ℕ). EndsAs (length g.front) xs (bad offset)) (sym (ap (λ (n : ℕ). take n g.behind) w.all ∙ take_whole g.behind)) short, short)
 
-  pub at_a_bad : (new : Core) (res : Result ℕ NoMemory) (offset : ℕ) → ReadsFrame at now g.behind left (Bad offset) → EndsInput (messages_in g.given) old ending.Bad new g.now res
+  pub at_a_bad : (new : Core) (res : Result ℕ NoMemory) (offset : ℕ) → ReadsFrame at now g.behind left (Bad offset) → EndsInput (given_of g.bodies) old ending.Bad new g.now res
       → SerialSession bytes left held (journal_of new) (ended_with res offset).status (ended_with res offset).at
   at_a_bad new res offset read input =
       let tells : (offset ≡ length g.front) × ((first (window (length g.front) g.behind) ≡ wrong) ⊎ EndsWithin (length g.front) g.behind read.count)
       = subst (λ (n : ℕ). (offset ≡ n) × ((first (window n g.behind) ≡ wrong) ⊎ EndsWithin n g.behind read.count)) g.taken_is read.tells in
       let three = bad_as read.count offset tells.0 tells.1 in
       ends_here read.count three.0 at_bad ending.Bad offset new res read.left_is three.1 (λ b. (refl, none_last (length g.front) (take read.count g.behind) three.0 three.1))
-      (subst (λ (w : List ℕ). SplitsInto is_last 0 w g.given (bad offset)) (sym g.parts) (front_end is_last g.front g.behind g.given (bad offset) g.is_front three.2)) input
+      (subst (λ (w : List ℕ). SplitsInto is_last 0 w g.bodies (bad offset)) (sym g.parts) (front_end is_last g.front g.behind g.bodies (bad offset) g.is_front three.2)) input
 
-  pub at_a_fault : (new : Core) (res : Result ℕ NoMemory) → ReadsFrame at now g.behind left Failed → EndsInput (messages_in g.given) old ending.Failed new g.now res
+  pub at_a_fault : (new : Core) (res : Result ℕ NoMemory) → ReadsFrame at now g.behind left Failed → EndsInput (given_of g.bodies) old ending.Failed new g.now res
       → SerialSession bytes left held (journal_of new) (ended_with res 0).status (ended_with res 0).at
   at_a_fault new res read input =
       let e = ends_cut (length g.front) read.count g.behind front_room read.within read.tells in
       ends_here read.count e.0 at_source ending.Failed 0 new res read.left_is e.1 (λ b. (refl, refl, none_last (length g.front) (take read.count g.behind) e.0 e.1)) tt input
 
-  pub at_the_limit : (new : Core) (res : Result ℕ NoMemory) → ReadsFrame at now g.behind left Long → EndsInput (messages_in g.given) old ending.Long new g.now res
+  pub at_the_limit : (new : Core) (res : Result ℕ NoMemory) → ReadsFrame at now g.behind left Long → EndsInput (given_of g.bodies) old ending.Long new g.now res
       → SerialSession bytes left held (journal_of new) (ended_with res 0).status (ended_with res 0).at
   at_the_limit new res read input =
       let tells : (first (window (length g.front) g.behind) ≡ cut) × (length g.front + read.count ≡ 2 ^ 40)
       = subst (λ (n : ℕ). (first (window n g.behind) ≡ cut) × (n + read.count ≡ 2 ^ 40)) g.taken_is read.tells in
       ends_here read.count long at_long ending.Long 0 new res read.left_is (ends_long (length g.front) read.count g.behind front_room read.within tells.1 tells.0) (λ b. (refl, refl, refl)) (
         length-append g.front (take read.count g.behind) ∙ ap (λ (n : ℕ). length g.front + n) (length-take-le read.count g.behind read.within) ∙ tells.1,
-        subst (λ (w : List ℕ). SplitsInto is_last 0 w g.given long) (sym g.parts)
-            (front_end is_last g.front g.behind g.given long g.is_front (tells.0, let room : length g.front + read.count ≡ 2 ^ 40 = tells.1 in let within : read.count ≤ length g.behind = read.within in omega arith)),
+        subst (λ (w : List ℕ). SplitsInto is_last 0 w g.bodies long) (sym g.parts)
+            (front_end is_last g.front g.behind g.bodies long g.is_front (tells.0, let room : length g.front + read.count ≡ 2 ^ 40 = tells.1 in let within : read.count ≤ length g.behind = read.within in omega arith)),
       ) input
 
   -- memory was wanting for a frame: some frames may have been taken whose bodies are no messages of the journal
   abbrev pub unseen : ReadsFrame at now g.behind left Memory → List (List ℕ)
   unseen read = (some_split is_last (length g.front) (take read.count g.behind) front_room).0
 
-  pub for_memory : (new : Core) (res : Result ℕ NoMemory) (read : ReadsFrame at now g.behind left Memory) → EndsInput (messages_in (g.given ++ unseen read)) old ending.Memory new g.now res
+  pub for_memory : (new : Core) (res : Result ℕ NoMemory) (read : ReadsFrame at now g.behind left Memory) → EndsInput (given_of (g.bodies ++ unseen read)) old ending.Memory new g.now res
       → SerialSession bytes left held (journal_of new) (ended_with res 0).status (ended_with res 0).at
   for_memory new res read input =
       let split = some_split is_last (length g.front) (take read.count g.behind) front_room in
-      ended_input bytes (g.front ++ take read.count g.behind) (drop read.count g.behind) left held (g.given ++ split.0) split.1 at_memory old new ending.Memory g.now 0 res
+      ended_input bytes (g.front ++ take read.count g.behind) (drop read.count g.behind) left held (g.bodies ++ split.0) split.1 at_memory old new ending.Memory g.now 0 res
       (taken_parts bytes g.front g.behind read.count g.parts) read.left_is (g.is_front.joins (take read.count g.behind) split.0 split.1 split.2) g.held_is
-      (let same : old.messages ≡ length g.given = g.count in omega (arith, length-append g.given split.0)) (λ e. absurd (false_is e)) (λ b. (refl, refl)) tt input
+      (let same : old.messages ≡ length g.bodies = g.count in omega (arith, length-append g.bodies split.0)) (λ e. absurd (false_is e)) (λ b. (refl, refl)) tt input
 
 -- ---- from one frame to the next
 
 pub starts : (bytes : List ℕ) (left held : Option (List ℕ)) (core : Core) (taken : ℕ) → taken ≡ 0 → left ≡ Some bytes → held ≡ Some []
-    → ((messages : List Parsed) → StandsFor messages core) → journal_of core ≡ [] → IsIdle core → Goes bytes taken left held core
+    → ((given : Given) → given.config ≡ no_settings → StandsFor given core) → journal_of core ≡ [] → IsIdle core → Goes bytes taken left held core
 starts bytes left held core taken none_taken left_is held_is stands none idle = record {
   front = [];
   behind = bytes;
-  given = [];
+  bodies = [];
   parts = refl;
   left_is = left_is;
   taken_is = none_taken;
   is_front = front_nil is_last;
-  count = (stands []).count ∙ ap (λ (j : List Entry). received (reverse j)) none;
+  count = (stands (given_of []) refl).count ∙ ap (λ (j : List Entry). received (reverse j)) none;
   now = [];
   held_is = held_is;
   keeps = λ more. record {
-    stands = stands (messages_in more);
-    writes = subst (λ (j : List Entry). Writes (messages_in more) (reverse j) []) (sym none) refl;
-    settled = subst (λ (j : List Entry). IsSettled (messages_in more) (reverse j)) (sym none) tt;
+    stands = stands (given_of more) refl;
+    writes = subst (λ (j : List Entry). Writes AnswerOf (given_of more) (reverse j) []) (sym none) refl;
+    settled = subst (λ (j : List Entry). IsSettled (given_of more) (reverse j)) (sym none) tt;
     idle = idle;
   };
 }
 
 pub goes_on : (bytes : List ℕ) (at now : ℕ) (left0 held0 left held : Option (List ℕ)) (old new : Core) (text : List ℕ) (g : Goes bytes at left0 held0 old) → at < 2 ^ 40
     → ReadsFrame at now g.behind left (Body text)
-    → ((messages : List Parsed) (was : List ℕ) → slice_get messages old.messages ≡ Some (message_in text) → Keeps messages old was → held0 ≡ Some was
-    → Holds held (Keeps messages new) × (new.messages ≡ old.messages + 1) × (is_exit (message_in text) ≡ false))
+    → ((given : Given) (was : List ℕ) → slice_get given.messages old.messages ≡ Some (message_in text) → Keeps given old was → held0 ≡ Some was
+    → Holds held (Keeps given new) × (new.messages ≡ old.messages + 1) × (is_exit (class_of (message_in text)) ≡ false))
     → Goes bytes now left held new
 goes_on bytes at now left0 held0 left held old new text g room read turn =
     let lead = g.front ++ take read.count g.behind in
-    let given = g.given ++ text ∷ [] in
-    let turned : (more : List (List ℕ)) → Holds held (Keeps (messages_in (given ++ more)) new) × (new.messages ≡ old.messages + 1) × (is_exit (message_in text) ≡ false)
-    = λ more. turn (messages_in (given ++ more)) g.now
-    (rw (with_one g.given more text) (found g.given more text old.messages g.count))
-    (rw (with_one g.given more text) (g.keeps (text ∷ more))) g.held_is in
+    let bodies = g.bodies ++ text ∷ [] in
+    let turned : (more : List (List ℕ)) → Holds held (Keeps (given_of (bodies ++ more)) new) × (new.messages ≡ old.messages + 1) × (is_exit (class_of (message_in text)) ≡ false)
+    = λ more. turn (given_of (bodies ++ more)) g.now
+    (rw (with_one g.bodies more text) (found g.bodies more text old.messages g.count))
+    (rw (with_one g.bodies more text) (g.keeps (text ∷ more))) g.held_is in
     let here = turned [] in
     let room' : length g.front < 2 ^ 40 = subst (λ (n : ℕ). n < 2 ^ 40) g.taken_is room in
     let begins : first (window (length g.front) g.behind) ≡ whole text read.count = subst (λ (n : ℕ). first (window n g.behind) ≡ whole text read.count) g.taken_is read.tells in
     record {
       front = lead;
       behind = drop read.count g.behind;
-      given = given;
+      bodies = bodies;
       parts = taken_parts bytes g.front g.behind read.count g.parts;
       left_is = read.left_is;
       taken_is = read.now_is ∙ ap (λ (n : ℕ). n + read.count) g.taken_is ∙ sym (length-append g.front (take read.count g.behind) ∙ ap (λ (n : ℕ). length g.front + n) (length-take-le read.count g.behind read.within));
-      is_front = front_more is_last g.front g.behind text g.given read.count g.is_front room' begins here.2;
-      count = here.1 ∙ ap (λ (n : ℕ). n + 1) g.count ∙ sym (length-one g.given text);
+      is_front = front_more is_last g.front g.behind text g.bodies read.count g.is_front room' begins here.2;
+      count = here.1 ∙ ap (λ (n : ℕ). n + 1) g.count ∙ sym (length-one g.bodies text);
       now = here.0.0;
       held_is = here.0.1;
-      keeps = λ more. holds_at held (Keeps (messages_in (given ++ more)) new) here.0.0 here.0.1 (turned more).0;
+      keeps = λ more. holds_at held (Keeps (given_of (bodies ++ more)) new) here.0.0 here.0.1 (turned more).0;
     }
 
 pub goes_turn : (bytes : List ℕ) (at now : ℕ) (left0 held0 left held : Option (List ℕ)) (old new : Core) (text : List ℕ) (g : Goes bytes at left0 held0 old) → at < 2 ^ 40
     → ReadsFrame at now g.behind left (Body text) → (turn : Turn) → turn ≡ GoesOn
-    → ((messages : List Parsed) (was : List ℕ) → slice_get messages old.messages ≡ Some (message_in text) → Keeps messages old was → held0 ≡ Some was → Turns messages old (message_in text) new held (Ok turn))
+    → ((given : Given) (was : List ℕ) → slice_get given.messages old.messages ≡ Some (message_in text) → Keeps given old was → held0 ≡ Some was → Turns given old (message_in text) new held (Ok turn))
     → Goes bytes now left held new
 goes_turn bytes at now left0 held0 left held old new text g room read turn is turns =
     goes_on bytes at now left0 held0 left held old new text g room read
-    (λ messages was there keeps held_was. subst (λ (t : Turn). Turns messages old (message_in text) new held (Ok t)) is (turns messages was there keeps held_was))
+    (λ given was there keeps held_was. subst (λ (t : Turn). Turns given old (message_in text) new held (Ok t)) is (turns given was there keeps held_was))
 
 pub idle_turn : (new : Core) (turn : Turn) → turn ≡ GoesOn → LeavesIdle new (Ok turn) → IsIdle new
 idle_turn new turn is idle = subst (λ (t : Turn). LeavesIdle new (Ok t)) is idle
 
 -- a session for which memory was wanting at its start
-pub never_began : (bytes : List ℕ) (left held : Option (List ℕ)) (core : Core) → left ≡ Some bytes → held ≡ Some [] → ((messages : List Parsed) → StandsFor messages core) → journal_of core ≡ [] → IsIdle core
-    → SerialSession bytes left held (journal_of core) 7 0
-unfolding starts
-never_began bytes left held core left_is held_is stands none idle =
-    let g = starts bytes left held core 0 refl left_is held_is stands none idle in
-    let count : core.messages ≡ 0 = g.count in
-    let keeps = g.keeps [] in
-    sealed bytes [] bytes left held [] edge at_memory core [] [] 7 0 refl left_is (front_end is_last [] [] [] edge (front_nil is_last) refl) keeps.stands
-    (omega arith) (λ e. absurd (false_is e)) held_is keeps.writes (λ e. refl) keeps.settled (λ e. absurd (false_is e)) (refl, refl) tt
+pub never_began : (bytes : List ℕ) (left held : Option (List ℕ)) → left ≡ Some bytes → held ≡ Some [] → SerialSession bytes left held [] 7 0
+never_began bytes left held left_is held_is = record {
+  session = record {
+    taken = [];
+    rest = bytes;
+    parts = refl;
+    left_is = left_is;
+    bodies = [];
+    ends = edge;
+    close = at_memory;
+    messages = record {
+      framed = front_end is_last [] [] [] edge (front_nil is_last) refl;
+      first = omega arith;
+      all = λ e. refl;
+    };
+    legal = record { follow = tt; none_due = refl };
+    written = record { now = []; unwritten = []; held_is = held_is; writes = refl; all = λ e. refl };
+    status = (refl, refl);
+    whole = λ e. refl;
+    unread = tt;
+  };
+  settled = tt;
+  in_time = tt;
+}

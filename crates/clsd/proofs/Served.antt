@@ -1,52 +1,47 @@
 -- What a step of the core and the writing of its replies leave.
-use Rattle.std.proofs.Common.{◌≡◌, ℕ, List, [], ◌∷◌, ◌++◌, false, sym, ap, subst, ◌∙◌, append_assoc, append-nil}
-use Rattle.std.specs.Prelude.{Option, Some, None, reverse, slice_get}
+use Rattle.std.proofs.Common.{◌≡◌, ◌⊎◌, inl, inr, refl, ℕ, ◌+◌, ◌≤◌, List, [], ◌∷◌, ◌++◌, map, Bool, true, false, sym, ap, subst, ◌∙◌, append_assoc, append-nil, arith}
+use Rattle.std.specs.Prelude.{Option, Some, None, Result, Ok, Err, reverse, slice_get, if◌then◌else◌}
+use Rattle.std.specs.Bool.{MatchBool}
 use Rattle.std.specs.Io.KnownBytes.{append_known}
 use Rattle.cl_rpc.specs.declared.call.Parsed.{Parsed}
+use Rattle.cl_rpc.specs.Classes.{class_of}
 use Rattle.cl_core.specs.declared.core_state.Core.{Core}
-use Rattle.cl_core.specs.declared.event.Entry.{Entry}
 use Rattle.cl_core.specs.declared.event.Effect.{Effect}
 use Rattle.cl_core.specs.declared.event.Event.{Event}
 use Rattle.cl_core.specs.declared.event.Event.TheVariants as event
 use Rattle.cl_query.specs.declared.job.Job.{Job}
-use Rattle.cl_core.specs.Legal.{IsSettled}
-use Rattle.cl_core.specs.Written.{Writes}
+use Rattle.cl_query.specs.AnswerOf.{AnswerOf}
+use Rattle.cl_history.specs.declared.entry.Entry.{Entry}
+use Rattle.cl_history.specs.Given.{Given}
+use Rattle.cl_history.specs.History.{is_shut_down, pending}
+use Rattle.cl_history.specs.Legal.{IsSettled}
+use Rattle.cl_history.specs.Written.{Writes}
+use Rattle.cl_core.specs.Steps.{hears, is_exit}
+use Rattle.cl_core.specs.Waiting.{number_of}
 use Rattle.cl_core.specs.Standing as standing
-use Rattle.cl_core.specs.Standing.{EndsTurn, IsNext, IsReady, StandsFor, frames_of, jobs_out, journal_of, past_of}
-use Rattle.clsd.specs.Serving.{Holds, IsCutOff, IsEndOf, Keeps, Works}
+use Rattle.cl_core.specs.Standing.{EndsTurn, IsIdle, IsNext, IsReady, StandsFor, TakesTurn, WorksOn, WritesOn, finish_of, frames_of, jobs_of, journal_of, messages_taken, past_of}
+use Rattle.clsd.specs.First.{first_of}
+use Rattle.clsd.specs.declared.turn.Turn.{Turn}
+use Rattle.clsd.specs.declared.turn.Turn.TheVariants.{Ends, GoesOn}
+use Rattle.clsd.specs.Serving.{Holds, IsCutOff, IsEndOf, IsOver, Keeps, LeavesIdle, Turns, Works, turn_of}
 
 -- what a session stands for and has written, before or after a step
-pub record Stands (messages : List Parsed) (core : Core) (held : List ℕ) : Type 0 where
-  pub stands : StandsFor messages core
-  pub writes : Writes messages (past_of core) held
-  pub settled : IsSettled messages (past_of core)
-
--- a step found no memory: all is as before
-pub step_failed : (messages : List Parsed) (old new : Core) (held : List ℕ) (sink : Option (List ℕ))
-    → IsSettled messages (past_of old) → Writes messages (past_of old) held → StandsFor messages new → journal_of new ≡ journal_of old → sink ≡ Some held
-    → Holds sink (IsCutOff messages new)
-step_failed messages old new held sink settled writes stands same told = (
-  held,
-  told,
-  record {
-    stands = stands;
-    unwritten = [];
-    writes = rw (append-nil held) (subst (λ (j : List Entry). Writes messages (reverse j) held) (sym same) writes);
-    settled = subst (λ (j : List Entry). IsSettled messages (reverse j)) (sym same) settled;
-  },
-)
+pub record Stands (given : Given) (core : Core) (held : List ℕ) : Type 0 where
+  pub stands : StandsFor given core
+  pub writes : Writes AnswerOf given (past_of core) held
+  pub settled : IsSettled given (past_of core)
 
 -- a front of the replies was written
-pub part_written : (messages : List Parsed) (new : Core) (held all front rest : List ℕ) (before sink : Option (List ℕ))
-    → Stands messages new (held ++ all) → before ≡ Some held → all ≡ front ++ rest → sink ≡ append_known before front
-    → Holds sink (IsCutOff messages new)
-part_written messages new held all front rest before sink now told parts wrote = (
+pub part_written : (given : Given) (new : Core) (held all front rest : List ℕ) (before sink : Option (List ℕ))
+    → Stands given new (held ++ all) → before ≡ Some held → all ≡ front ++ rest → sink ≡ append_known before front
+    → Holds sink (IsCutOff given new)
+part_written given new held all front rest before sink now told parts wrote = (
   held ++ front,
   wrote ∙ ap (λ (w : Option (List ℕ)). append_known w front) told,
   record {
     stands = now.stands;
     unwritten = rest;
-    writes = subst (Writes messages (past_of new)) (ap (λ (w : List ℕ). held ++ w) parts ∙ sym (append_assoc held front rest)) now.writes;
+    writes = subst (Writes AnswerOf given (past_of new)) (ap (λ (w : List ℕ). held ++ w) parts ∙ sym (append_assoc held front rest)) now.writes;
     settled = now.settled;
   },
 )
@@ -56,53 +51,127 @@ pub all_written : (held all : List ℕ) (before sink : Option (List ℕ)) → be
 all_written held all before sink told wrote = wrote ∙ ap (λ (w : Option (List ℕ)). append_known w all) told
 
 -- and the work was then cut off
-pub cut_off : (messages : List Parsed) (new : Core) (held : List ℕ) (sink : Option (List ℕ)) → Stands messages new held → sink ≡ Some held → Holds sink (IsCutOff messages new)
-cut_off messages new held sink now told =
+pub cut_off : (given : Given) (new : Core) (held : List ℕ) (sink : Option (List ℕ)) → Stands given new held → sink ≡ Some held → Holds sink (IsCutOff given new)
+cut_off given new held sink now told =
     (held, told, record { stands = now.stands; unwritten = []; writes = rw (append-nil held) now.writes; settled = now.settled })
+
+-- the same as before
+pub keeps_so : (given : Given) (core : Core) (held : List ℕ) → Keeps given core held → Stands given core held
+keeps_so given core held keeps = record { stands = keeps.stands; writes = keeps.writes; settled = keeps.settled }
+
+pub works_so : (given : Given) (core : Core) (job : Job) (held : List ℕ) → Works given core job held → Stands given core held
+works_so given core job held works = record { stands = works.stands; writes = works.writes; settled = works.settled }
+
+-- where none waits none is pending
+pub none_pending : (given : Given) (core : Core) → StandsFor given core → core.pending ≡ [] → pending given (past_of core) ≡ []
+none_pending given core stands none = sym stands.waiting ∙ ap (map number_of) none
+
+pub is_over : (given : Given) (core : Core) (held : List ℕ) → Stands given core held → core.pending ≡ [] → IsOver given core held
+is_over given core held now none = record { stands = now.stands; writes = now.writes; settled = now.settled; none_pending = none_pending given core now.stands none }
 
 -- ---- the event of a job's end
 
-pub end_is_next : (messages : List Parsed) (core : Core) (job : Job) (e : Event) → IsEndOf job e → IsNext messages core e
-end_is_next messages core job (event.Message p) is = absurd is
-end_is_next messages core job (event.Done done) is = tt
-end_is_next messages core job (event.NoMemory same) is = tt
-end_is_next messages core job (event.End how) is = absurd is
+either_way : (b : Bool) (A : Type 0) → A → MatchBool b A (Unit {0})
+either_way true A a = a
+either_way false A a = tt
+
+pub end_is_next : (given : Given) (core : Core) (job : Job) (e : Event) → IsEndOf job e → IsNext given core e
+end_is_next given core job (event.Message p) is = absurd is
+end_is_next given core job (event.Loaded path read) is = absurd is
+end_is_next given core job (event.Done done) is = either_way (hears core (event.Done done)) _ tt
+end_is_next given core job (event.Need need) is = absurd is
+end_is_next given core job (event.NoMemory same) is = either_way (hears core (event.NoMemory same)) _ tt
+end_is_next given core job (event.End how) is = absurd is
 
 pub end_is_ready : (core : Core) (job : Job) (e : Event) → IsEndOf job e → IsReady core e
 end_is_ready core job (event.Message p) is = absurd is
+end_is_ready core job (event.Loaded path read) is = absurd is
 end_is_ready core job (event.Done done) is = tt
+end_is_ready core job (event.Need need) is = absurd is
 end_is_ready core job (event.NoMemory same) is = tt
 end_is_ready core job (event.End how) is = absurd is
 
-pub end_turns : (old new : Core) (job : Job) (e : Event) (effects : List Effect) → IsEndOf job e → standing.Turns old e new effects → jobs_out old ≡ job ∷ [] → old.ending ≡ None → old.finished ≡ false
-    → EndsTurn old new effects
-end_turns old new job (event.Message p) effects is turns out goes_on not_over = absurd is
-end_turns old new job (event.Done done) effects is turns out goes_on not_over = turns (out ∙ ap (λ (j : Job). j ∷ []) (sym is)) goes_on not_over
-end_turns old new job (event.NoMemory same) effects is turns out goes_on not_over = turns (out ∙ ap (λ (j : Job). j ∷ []) (sym is)) goes_on not_over
-end_turns old new job (event.End how) effects is turns out goes_on not_over = absurd is
+-- it ends the turn, and no message is taken
+pub end_turns : (old new : Core) (job : Job) (e : Event) (effects : List Effect) → IsEndOf job e → standing.Turns old e new effects → WorksOn old job
+    → (messages_taken new ≡ messages_taken old) × EndsTurn new effects
+end_turns old new job (event.Message p) effects is turns works = absurd is
+end_turns old new job (event.Loaded path read) effects is turns works = absurd is
+end_turns old new job (event.Done done) effects is turns works = let three = turns (subst (WorksOn old) (sym is) works) in (three.0, three.2)
+end_turns old new job (event.Need need) effects is turns works = absurd is
+end_turns old new job (event.NoMemory same) effects is turns works = let three = turns (subst (WorksOn old) (sym is) works) in (three.0, three.2)
+end_turns old new job (event.End how) effects is turns works = absurd is
 
 -- what a job's end leaves before its reply is written
-pub end_stands : (messages : List Parsed) (old new : Core) (job : Job) (e : Event) (effects : List Effect) (held : List ℕ) → IsEndOf job e → Works messages old job held
-    → ((ms : List Parsed) → IsNext ms old e → StandsFor ms old → StandsFor ms new)
-    → ((ms : List Parsed) (bytes : List ℕ) → IsNext ms old e → StandsFor ms old → Writes ms (past_of old) bytes → Writes ms (past_of new) (bytes ++ frames_of effects))
-    → ((ms : List Parsed) → StandsFor ms old → IsReady old e → IsSettled ms (past_of old) → IsSettled ms (past_of new))
-    → Stands messages new (held ++ frames_of effects)
-end_stands messages old new job e effects held is works stands writes settles = record {
-  stands = stands messages (end_is_next messages old job e is) works.stands;
-  writes = writes messages held (end_is_next messages old job e is) works.stands works.writes;
-  settled = settles messages works.stands (end_is_ready old job e is) works.settled;
+pub end_stands : (given : Given) (old new : Core) (job : Job) (e : Event) (effects : List Effect) (held : List ℕ) → IsEndOf job e → Works given old job held
+    → ((g : Given) → IsNext g old e → StandsFor g old → StandsFor g new)
+    → ((g : Given) → IsNext g old e → StandsFor g old → WritesOn g old new effects)
+    → ((g : Given) → StandsFor g old → IsReady old e → IsSettled g (past_of old) → IsSettled g (past_of new))
+    → Stands given new (held ++ frames_of effects)
+end_stands given old new job e effects held is works stands writes settles = record {
+  stands = stands given (end_is_next given old job e is) works.stands;
+  writes = writes given (end_is_next given old job e is) works.stands held works.writes;
+  settled = settles given works.stands (end_is_ready old job e is) works.settled;
 }
 
 -- ---- a message
 
 -- what a message leaves before its replies are written
-pub message_leaves : (messages : List Parsed) (old new : Core) (p : Parsed) (effects : List Effect) (held : List ℕ) → slice_get messages old.messages ≡ Some p → Keeps messages old held
-    → ((ms : List Parsed) → IsNext ms old (event.Message p) → StandsFor ms old → StandsFor ms new)
-    → ((ms : List Parsed) (bytes : List ℕ) → IsNext ms old (event.Message p) → StandsFor ms old → Writes ms (past_of old) bytes → Writes ms (past_of new) (bytes ++ frames_of effects))
-    → ((ms : List Parsed) → StandsFor ms old → IsReady old (event.Message p) → IsSettled ms (past_of old) → IsSettled ms (past_of new))
-    → Stands messages new (held ++ frames_of effects)
-message_leaves messages old new p effects held look keeps stands writes settles = record {
-  stands = stands messages look keeps.stands;
-  writes = writes messages held look keeps.stands keeps.writes;
-  settled = settles messages keeps.stands keeps.idle.none_out keeps.settled;
-}
+pub message_leaves : (given : Given) (old new : Core) (p : Parsed) (effects : List Effect) (held : List ℕ) → slice_get given.messages (messages_taken old) ≡ Some p → Keeps given old held
+    → ((g : Given) → IsNext g old (event.Message p) → StandsFor g old → StandsFor g new)
+    → ((g : Given) → IsNext g old (event.Message p) → StandsFor g old → WritesOn g old new effects)
+    → ((g : Given) → StandsFor g old → IsReady old (event.Message p) → IsSettled g (past_of old) → IsSettled g (past_of new))
+    → Stands given new (held ++ frames_of effects)
+message_leaves given old new p effects held look keeps stands writes settles =
+    let next : IsNext given old (event.Message p) = either_way (hears old (event.Message p)) _ look in
+    record {
+      stands = stands given next keeps.stands;
+      writes = writes given next keeps.stands held keeps.writes;
+      settled = settles given keeps.stands keeps.idle.none_waits keeps.settled;
+    }
+
+-- the job that a message started is worked on
+starts_job_if : (is_last : Bool) (old new : Core) (effects : List Effect) (job : Job) → TakesTurn is_last old new effects → Some job ≡ first_of (jobs_of effects)
+    → (is_last ≡ false) × WorksOn new job
+starts_job_if true old new effects job turn first =
+    let none : first_of (jobs_of effects) ≡ None = ap first_of turn.0 in let clash : ⊥ = cc in absurd clash
+starts_job_if false old new effects job (loads, goes_on, inl none) first =
+    let none : first_of (jobs_of effects) ≡ None = ap first_of none.0 in let clash : ⊥ = cc in absurd clash
+starts_job_if false old new effects job (loads, goes_on, inr (same, started, works)) first =
+    let is : first_of (jobs_of effects) ≡ Some same = ap first_of started in
+    let equal : same ≡ job = cc in
+    (refl, subst (WorksOn new) equal works)
+
+pub starts_job : (old new : Core) (p : Parsed) (effects : List Effect) (job : Job) → TakesTurn (is_exit (class_of p)) old new effects → Some job ≡ first_of (jobs_of effects)
+    → (is_exit (class_of p) ≡ false) × WorksOn new job
+starts_job old new p effects job turn first = starts_job_if (is_exit (class_of p)) old new effects job turn first
+
+zero_or_one : (b : Bool) → ((if b then 0 else 1) ≡ 0) ⊎ ((if b then 0 else 1) ≡ 1)
+zero_or_one true = inl refl
+zero_or_one false = inr refl
+
+-- it started none: the session goes on or ends
+no_job_if : (given : Given) (is_last : Bool) (old new : Core) (p : Parsed) (effects : List Effect) (now : List ℕ) (sink : Option (List ℕ)) → is_exit (class_of p) ≡ is_last
+    → TakesTurn is_last old new effects → None ≡ first_of (jobs_of effects) → messages_taken new ≡ messages_taken old + 1 → Stands given new now → sink ≡ Some now
+    → Turns given old p new sink (Ok (turn_of (finish_of effects)))
+no_job_if given true old new p effects now sink exits turn none count stands told =
+    subst (λ (f : Option ℕ). Turns given old p new sink (Ok (turn_of f))) (sym turn.2)
+    ((now, told, is_over given new now stands turn.3), count, exits, ap (λ (b : Bool). if b then 0 else 1) (sym turn.4 ∙ stands.stands.shut_down))
+no_job_if given false old new p effects now sink exits (loads, goes_on, inl both) none count stands told =
+    subst (λ (f : Option ℕ). Turns given old p new sink (Ok (turn_of f))) (sym goes_on)
+    ((now, told, record { stands = stands.stands; writes = stands.writes; settled = stands.settled; idle = both.1 }), count, exits)
+no_job_if given false old new p effects now sink exits (loads, goes_on, inr (job, started, works)) none count stands told =
+    let some : first_of (jobs_of effects) ≡ Some job = ap first_of started in let clash : ⊥ = cc in absurd clash
+
+pub no_job : (given : Given) (old new : Core) (p : Parsed) (effects : List Effect) (now : List ℕ) (sink : Option (List ℕ))
+    → TakesTurn (is_exit (class_of p)) old new effects → None ≡ first_of (jobs_of effects) → messages_taken new ≡ messages_taken old + 1 → Stands given new now → sink ≡ Some now
+    → Turns given old p new sink (Ok (turn_of (finish_of effects)))
+no_job given old new p effects now sink turn none count stands told = no_job_if given (is_exit (class_of p)) old new p effects now sink refl turn none count stands told
+
+no_job_idle_if : (is_last : Bool) (old new : Core) (effects : List Effect) → TakesTurn is_last old new effects → None ≡ first_of (jobs_of effects) → LeavesIdle new (Ok (turn_of (finish_of effects)))
+no_job_idle_if true old new effects turn none = subst (λ (f : Option ℕ). LeavesIdle new (Ok (turn_of f))) (sym turn.2) (zero_or_one old.shut_down)
+no_job_idle_if false old new effects (loads, goes_on, inl both) none = subst (λ (f : Option ℕ). LeavesIdle new (Ok (turn_of f))) (sym goes_on) both.1
+no_job_idle_if false old new effects (loads, goes_on, inr (job, started, works)) none =
+    let some : first_of (jobs_of effects) ≡ Some job = ap first_of started in let clash : ⊥ = cc in absurd clash
+
+pub no_job_idle : (old new : Core) (p : Parsed) (effects : List Effect) → TakesTurn (is_exit (class_of p)) old new effects → None ≡ first_of (jobs_of effects) → LeavesIdle new (Ok (turn_of (finish_of effects)))
+no_job_idle old new p effects turn none = no_job_idle_if (is_exit (class_of p)) old new effects turn none

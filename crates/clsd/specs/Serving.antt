@@ -9,46 +9,47 @@ use Rattle.cl_core.specs.declared.event.Effect.{Effect}
 use Rattle.cl_core.specs.declared.event.Effect.TheVariants as effect
 use Rattle.cl_core.specs.declared.event.Event.{Event}
 use Rattle.cl_core.specs.declared.event.Event.TheVariants as event
-use Rattle.cl_core.specs.History.{is_shut_down}
-use Rattle.cl_core.specs.Legal.{IsSettled}
-use Rattle.cl_core.specs.Written.{Writes}
+use Rattle.cl_query.specs.AnswerOf.{AnswerOf}
+use Rattle.cl_history.specs.Given.{Given}
+use Rattle.cl_history.specs.History.{is_shut_down, pending}
+use Rattle.cl_history.specs.Legal.{IsSettled}
+use Rattle.cl_history.specs.Written.{Writes}
+use Rattle.cl_rpc.specs.Classes.{class_of}
 use Rattle.cl_core.specs.declared.event.Ending.{Ending}
 use Rattle.cl_core.specs.Steps.{is_exit, status_of}
-use Rattle.cl_core.specs.Standing.{IsIdle, StandsFor, jobs_out, past_of}
+use Rattle.cl_core.specs.Standing.{IsIdle, StandsFor, WorksOn, messages_taken, past_of}
 use Rattle.clsd.specs.declared.session.Ended.{Ended}
 use Rattle.clsd.specs.declared.turn.Turn.{Turn}
 use Rattle.clsd.specs.declared.turn.Turn.TheVariants.{GoesOn, Ends, SinkFailed}
 
--- the core stands for these messages; the sink holds what its journal writes; no request was pending where a message
+-- the core stands for what the session was given; the sink holds what its journal writes; no request was pending where a message
 -- was received, and none is
-pub record Keeps (messages : List Parsed) (core : Core) (held : List ℕ) : Type 0 where
-  pub stands : StandsFor messages core
-  pub writes : Writes messages (past_of core) held
-  pub settled : IsSettled messages (past_of core)
+pub record Keeps (given : Given) (core : Core) (held : List ℕ) : Type 0 where
+  pub stands : StandsFor given core
+  pub writes : Writes AnswerOf given (past_of core) held
+  pub settled : IsSettled given (past_of core)
   pub idle : IsIdle core
 
 -- the same while a job is out
-pub record Works (messages : List Parsed) (core : Core) (job : Job) (held : List ℕ) : Type 0 where
-  pub stands : StandsFor messages core
-  pub writes : Writes messages (past_of core) held
-  pub settled : IsSettled messages (past_of core)
-  pub out : jobs_out core ≡ job ∷ []
-  pub goes_on : core.ending ≡ None
-  pub not_over : core.finished ≡ false
+pub record Works (given : Given) (core : Core) (job : Job) (held : List ℕ) : Type 0 where
+  pub stands : StandsFor given core
+  pub writes : Writes AnswerOf given (past_of core) held
+  pub settled : IsSettled given (past_of core)
+  pub works : WorksOn core job
 
 -- the session ended of itself, with no request pending
-pub record IsOver (messages : List Parsed) (core : Core) (held : List ℕ) : Type 0 where
-  pub stands : StandsFor messages core
-  pub writes : Writes messages (past_of core) held
-  pub settled : IsSettled messages (past_of core)
-  pub none_out : jobs_out core ≡ []
+pub record IsOver (given : Given) (core : Core) (held : List ℕ) : Type 0 where
+  pub stands : StandsFor given core
+  pub writes : Writes AnswerOf given (past_of core) held
+  pub settled : IsSettled given (past_of core)
+  pub none_pending : pending given (past_of core) ≡ []
 
 -- the session was cut off: the sink holds a front of what its journal writes
-pub record IsCutOff (messages : List Parsed) (core : Core) (held : List ℕ) : Type 0 where
-  pub stands : StandsFor messages core
+pub record IsCutOff (given : Given) (core : Core) (held : List ℕ) : Type 0 where
+  pub stands : StandsFor given core
   pub unwritten : List ℕ
-  pub writes : Writes messages (past_of core) (held ++ unwritten)
-  pub settled : IsSettled messages (past_of core)
+  pub writes : Writes AnswerOf given (past_of core) (held ++ unwritten)
+  pub settled : IsSettled given (past_of core)
 
 -- what the sink holds is known, and is so
 abbrev pub Holds : Option (List ℕ) → (List ℕ → Type 0) → Type 0
@@ -57,12 +58,12 @@ Holds held P = (now : List ℕ) × (held ≡ Some now) × P now
 -- ---- a turn: a message with the job that it starts
 
 -- what the turn of a message leaves, by how it ended
-abbrev pub Turns : List Parsed → Core → Parsed → Core → Option (List ℕ) → Result Turn Memory → Type 0
-Turns messages old p new held (Ok GoesOn) = Holds held (Keeps messages new) × (new.messages ≡ old.messages + 1) × (is_exit p ≡ false)
-Turns messages old p new held (Ok (Ends status)) =
-    Holds held (IsOver messages new) × (new.messages ≡ old.messages + 1) × (is_exit p ≡ true) × (status ≡ (if is_shut_down messages (past_of new) then 0 else 1))
-Turns messages old p new held (Ok SinkFailed) = Holds held (IsCutOff messages new) × (new.messages ≤ old.messages + 1)
-Turns messages old p new held (Err memory) = Holds held (IsCutOff messages new) × (new.messages ≤ old.messages + 1)
+abbrev pub Turns : Given → Core → Parsed → Core → Option (List ℕ) → Result Turn Memory → Type 0
+Turns given old p new held (Ok GoesOn) = Holds held (Keeps given new) × (messages_taken new ≡ messages_taken old + 1) × (is_exit (class_of p) ≡ false)
+Turns given old p new held (Ok (Ends status)) =
+    Holds held (IsOver given new) × (messages_taken new ≡ messages_taken old + 1) × (is_exit (class_of p) ≡ true) × (status ≡ (if is_shut_down given (past_of new) then 0 else 1))
+Turns given old p new held (Ok SinkFailed) = Holds held (IsCutOff given new) × (messages_taken new ≤ messages_taken old + 1)
+Turns given old p new held (Err memory) = Holds held (IsCutOff given new) × (messages_taken new ≤ messages_taken old + 1)
 
 -- a turn of an idle session leaves it idle, or ends it with 0 or 1
 abbrev pub LeavesIdle : Core → Result Turn Memory → Type 0
@@ -72,11 +73,11 @@ LeavesIdle new (Ok SinkFailed) = Unit {0}
 LeavesIdle new (Err memory) = Unit {0}
 
 -- what the end of a job leaves
-abbrev pub EndsWork : List Parsed → Core → Core → Option (List ℕ) → Result Turn Memory → Type 0
-EndsWork messages old new held (Ok GoesOn) = Holds held (Keeps messages new) × (new.messages ≡ old.messages)
-EndsWork messages old new held (Ok (Ends status)) = ⊥
-EndsWork messages old new held (Ok SinkFailed) = Holds held (IsCutOff messages new) × (new.messages ≡ old.messages)
-EndsWork messages old new held (Err memory) = Holds held (IsCutOff messages new) × (new.messages ≡ old.messages)
+abbrev pub EndsWork : Given → Core → Core → Option (List ℕ) → Result Turn Memory → Type 0
+EndsWork given old new held (Ok GoesOn) = Holds held (Keeps given new) × (messages_taken new ≡ messages_taken old)
+EndsWork given old new held (Ok (Ends status)) = ⊥
+EndsWork given old new held (Ok SinkFailed) = Holds held (IsCutOff given new) × (messages_taken new ≡ messages_taken old)
+EndsWork given old new held (Err memory) = Holds held (IsCutOff given new) × (messages_taken new ≡ messages_taken old)
 
 -- the event of a job's end
 abbrev pub IsEndOf : Job → Event → Type 0
@@ -95,9 +96,9 @@ turn_of (Some status) = Ends status
 turn_of None = GoesOn
 
 -- what the end of the input leaves
-abbrev pub EndsInput : List Parsed → Core → Ending → Core → List ℕ → Result ℕ Memory → Type 0
-EndsInput messages old how new held (Ok status) = (status ≡ status_of how) × IsOver messages new held × (new.messages ≡ old.messages)
-EndsInput messages old how new held (Err memory) = IsCutOff messages new held × (new.messages ≡ old.messages)
+abbrev pub EndsInput : Given → Core → Ending → Core → List ℕ → Result ℕ Memory → Type 0
+EndsInput given old how new held (Ok status) = (status ≡ status_of how) × IsOver given new held × (messages_taken new ≡ messages_taken old)
+EndsInput given old how new held (Err memory) = IsCutOff given new held × (messages_taken new ≡ messages_taken old)
 
 -- the end with this status and offset, or for want of memory
 abbrev pub ended_with : Result ℕ Memory → ℕ → Ended

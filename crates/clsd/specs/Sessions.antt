@@ -7,20 +7,32 @@ use Rattle.cl_rpc.specs.declared.call.Parsed.{Parsed}
 use Rattle.cl_rpc.specs.declared.out.How.{How}
 use Rattle.cl_rpc.specs.declared.out.How.TheVariants as how
 use Rattle.cl_rpc.specs.Messages.{message_in}
-use Rattle.cl_core.specs.declared.event.Entry.{Entry}
-use Rattle.cl_core.specs.declared.event.Entry.TheVariants.{In, Load, Reply, Notify}
-use Rattle.cl_core.specs.History.{is_shut_down, pending, received}
-use Rattle.cl_core.specs.Legal.{IsLegal, IsSettled}
-use Rattle.cl_core.specs.Written.{Writes}
+use Rattle.cl_rpc.specs.Classes.{class_of}
+use Rattle.cl_query.specs.AnswerOf.{AnswerOf, NeedsOf}
+use Rattle.cl_base.specs.declared.config.Settings.{Settings}
+use Rattle.cl_history.specs.declared.entry.Entry.{Entry}
+use Rattle.cl_history.specs.declared.entry.Entry.TheVariants.{In, Load, Reply, Notify}
+use Rattle.cl_history.specs.Given.{Given, received}
+use Rattle.cl_history.specs.History.{is_shut_down, pending}
+use Rattle.cl_history.specs.Legal.{IsLegal, IsSettled}
+use Rattle.cl_history.specs.Written.{Writes}
 use Rattle.cl_core.specs.Steps.{is_exit}
 
 -- the body is that of an `exit`, after which nothing is read
 abbrev pub is_last : List ℕ → Bool
-is_last body = is_exit (message_in body)
+is_last body = is_exit (class_of (message_in body))
 
 -- what bodies say
 abbrev pub messages_in : List (List ℕ) → List Parsed
 messages_in bodies = map message_in bodies
+
+-- no folders for headers, and no macros that are defined before a text
+abbrev pub no_settings : Settings
+no_settings = record { includes = []; defines = [] }
+
+-- what a session of these bodies is given: the program's words set nothing, and it reads no header
+abbrev pub given_of : List (List ℕ) → Given
+given_of bodies = record { config = no_settings; messages = messages_in bodies; reads = [] }
 
 -- how a session ended: after an `exit`; at the end of the input, at a frame's edge; at bytes that are no frame; with
 -- more bytes than a session may have; by a fault of the source; by one of the sink; for want of memory
@@ -70,11 +82,11 @@ pub record Takes (close : Close) (taken : List ℕ) (bodies : List (List ℕ)) (
   pub all : IsTrue (is_whole close) → received past ≡ length bodies
 
 -- the sink holds what the journal writes, or a front of it where the session was cut off
-pub record Writing (close : Close) (messages : List Parsed) (past : List Entry) (held : Option (List ℕ)) : Type 0 where
+pub record Writing (close : Close) (given : Given) (past : List Entry) (held : Option (List ℕ)) : Type 0 where
   pub now : List ℕ
   pub unwritten : List ℕ
   pub held_is : held ≡ Some now
-  pub writes : Writes messages past (now ++ unwritten)
+  pub writes : Writes AnswerOf given past (now ++ unwritten)
   pub all : IsTrue (is_whole close) → unwritten ≡ []
 
 -- without workers no request is ended early
@@ -103,16 +115,16 @@ pub record Session (bytes : List ℕ) (left held : Option (List ℕ)) (journal :
   pub ends : frames.Ending
   pub close : Close
   pub messages : Takes close taken bodies ends (reverse journal)
-  pub legal : IsLegal (messages_in bodies) (reverse journal)
-  pub written : Writing close (messages_in bodies) (reverse journal) held
-  pub status : StatusIs close (is_shut_down (messages_in bodies) (reverse journal)) ends code offset
-  pub whole : IsTrue (is_whole close) → pending (messages_in bodies) (reverse journal) ≡ []
+  pub legal : IsLegal NeedsOf (given_of bodies) (reverse journal)
+  pub written : Writing close (given_of bodies) (reverse journal) held
+  pub status : StatusIs close (is_shut_down (given_of bodies) (reverse journal)) ends code offset
+  pub whole : IsTrue (is_whole close) → pending (given_of bodies) (reverse journal) ≡ []
   pub unread : LeavesUnread close bytes taken rest bodies offset
 
 -- what only a server without workers owes besides: no request is pending where a message is received, and none is ended early
 pub record SerialSession (bytes : List ℕ) (left held : Option (List ℕ)) (journal : List Entry) (code offset : ℕ) : Type 0 where
   pub session : Session bytes left held journal code offset
-  pub settled : IsSettled (messages_in session.bodies) (reverse journal)
+  pub settled : IsSettled (given_of session.bodies) (reverse journal)
   pub in_time : AreInTime (reverse journal)
 
 -- a count of faults that didn't rise

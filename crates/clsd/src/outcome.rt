@@ -1,5 +1,5 @@
 use cl_base::List;
-use cl_core::Entry;
+use cl_history::Entry;
 
 /// The status of a sink that failed.
 pub const SINK_FAILED: u8 = 5;

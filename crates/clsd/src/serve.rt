@@ -1,15 +1,18 @@
-ghost use Rattle.std.specs.Prelude.{◌≡◌, ◌≢◌, ℕ, List, [], Some, map, string_bytes};
+ghost use Rattle.std.specs.Prelude.{◌≡◌, ◌≢◌, ℕ, List, [], Some, None, IfOk, map, string_bytes};
 ghost use Rattle.cl_base.specs.Faults.{HasCause};
 ghost use Rattle.cl_frames.specs.Sessions.{SplitsInto, after_last};
-ghost use Rattle.clsd.specs.Sessions.{SerialSession, RanToTheEnd, StoodStill, is_last};
+ghost use Rattle.cl_history.specs.Given.{Given};
+ghost use Rattle.cl_core.specs.Standing.{IsIdle, StandsFor, journal_of};
+ghost use Rattle.clsd.specs.Sessions.{SerialSession, RanToTheEnd, StoodStill, is_last, no_settings};
 ghost use Rattle.clsd.specs.Words.{command_in};
 
 use crate::command::{Command, command_of};
 use crate::outcome::{NO_MEMORY, Outcome, WRONG_WORDS};
 use crate::session::{Ended, run};
-use cl_base::{HeaderSource, List, Memory};
-use cl_core::{Core, Entry};
+use cl_base::{Config, HeaderSource, List, Mem, Memory};
+use cl_core::Core;
 use cl_frames::{Frames, Sink, Source};
+use cl_history::Entry;
 use std::alloc::Global;
 
 /// Serves one session: reads messages from the source and writes replies to the sink, until the session ends. Each job
@@ -55,10 +58,10 @@ fn serve<S: Source, K: Sink>(alloc: Global, source: &mut S, sink: &mut K) -> Out
     ensures sink { HasCause (K.faults sink.old) (K.faults sink.new) (result.status ≡ 5) }
     ensures links { result.links ≡ 0 }
 {
-    let mut core = Core::new(alloc);
-    match Frames::new(alloc) {
-        Ok(frames) => {
+    match begin(alloc) {
+        Ok((frames, core)) => {
             let mut frames = frames;
+            let mut core = core;
             let ended = run(alloc, &mut frames, &mut core, source, sink);
             outcome(ended, core.into_journal())
         }
@@ -67,9 +70,22 @@ fn serve<S: Source, K: Sink>(alloc: Global, source: &mut S, sink: &mut K) -> Out
                 status: NO_MEMORY,
                 at: 0,
             },
-            core.into_journal(),
+            List::new(alloc),
         ),
     }
+}
+
+/// A session in which nothing has happened, and its frames. It reads texts with no settings.
+fn begin(alloc: Global) -> Mem<(Frames, Core)>
+    ensures frames { IfOk result (λ begun. (begun.0.taken ≡ 0) × (begun.0.last ≡ None)) }
+    ensures stands { IfOk result (λ begun. (given : Given) → given.config ≡ no_settings → StandsFor given begun.1) }
+    ensures journal { IfOk result (λ begun. journal_of begun.1 ≡ []) }
+    ensures idle { IfOk result (λ begun. IsIdle begun.1) }
+{
+    let config = Config::new(alloc, List::new(alloc), List::new(alloc))?;
+    let core = Core::new(alloc, &config)?;
+    let frames = Frames::new(alloc)?;
+    Ok((frames, core))
 }
 
 /// The outcome with this end and this journal.

@@ -1,11 +1,11 @@
 ghost use Rattle.std.specs.Prelude.{◌≡◌, ◌≢◌, ℕ, [], List, Some, None, Ok, IfOk, slice_get};
 ghost use Rattle.cl_base.specs.Faults.{HasCause};
-ghost use Rattle.cl_rpc.specs.declared.call.Parsed.{Parsed};
+ghost use Rattle.cl_history.specs.Given.{Given};
 ghost use Rattle.cl_rpc.specs.Messages.{message_in};
-ghost use Rattle.cl_core.specs.Standing.{IsIdle, StandsFor, journal_of};
+ghost use Rattle.cl_core.specs.Standing.{IsIdle, StandsFor, journal_of, messages_taken};
 ghost use Rattle.cl_core.specs.Steps.{status_of};
 ghost use Rattle.clsd.specs.Serving.{ended_with, EndsInput, Keeps, LeavesIdle, Turns};
-ghost use Rattle.clsd.specs.Sessions.{SerialSession};
+ghost use Rattle.clsd.specs.Sessions.{SerialSession, no_settings};
 
 use crate::outcome::{NO_MEMORY, SINK_FAILED};
 use crate::turn::{Turn, finish_of, take_message};
@@ -35,7 +35,7 @@ pub fn run<S: Source, K: Sink>(
 ) -> Ended
     requires taken { frames.old.taken ≡ 0 }
     requires last { frames.old.last ≡ None }
-    requires stands { (messages : List Parsed) → StandsFor messages core.old }
+    requires stands { (given : Given) → given.config ≡ no_settings → StandsFor given core.old }
     requires journal { journal_of core.old ≡ [] }
     requires idle { IsIdle core.old }
     ensures session { (bytes : List ℕ) → S.left source.old ≡ Some bytes → K.held sink.old ≡ Some []
@@ -71,9 +71,9 @@ pub fn run<S: Source, K: Sink>(
 
 /// Takes the body of a frame.
 fn take_body<K: Sink>(alloc: Global, core: &mut Core, sink: &mut K, body: &Text) -> Mem<Turn>
-    ensures turn { (messages : List Parsed) (held : List ℕ) → slice_get messages core.old.messages ≡ Some (message_in body.now)
-        → Keeps messages core.old held → K.held sink.old ≡ Some held
-        → Turns messages core.old (message_in body.now) core.new (K.held sink.new) result }
+    ensures turn { (given : Given) (held : List ℕ) → slice_get given.messages (messages_taken core.old) ≡ Some (message_in body.now)
+        → Keeps given core.old held → K.held sink.old ≡ Some held
+        → Turns given core.old (message_in body.now) core.new (K.held sink.new) result }
     ensures idle { IsIdle core.old → LeavesIdle core.new result }
     ensures cause { HasCause (K.faults sink.old) (K.faults sink.new) (result ≡ Ok Turn.SinkFailed) }
 {
@@ -85,7 +85,7 @@ fn take_body<K: Sink>(alloc: Global, core: &mut Core, sink: &mut K, body: &Text)
 
 /// Ends the session where the input ended, and tells the status.
 fn end(alloc: Global, core: &mut Core, ending: Ending) -> Mem<u8>
-    ensures turn { (messages : List Parsed) (held : List ℕ) → Keeps messages core.old held → EndsInput messages core.old ending core.new held result }
+    ensures turn { (given : Given) (held : List ℕ) → Keeps given core.old held → EndsInput given core.old ending core.new held result }
     ensures status { IsIdle core.old → IfOk result (λ status. status ≡ status_of ending) }
 {
     match core.step(alloc, Event::End(ending)) {

@@ -4,7 +4,7 @@ use crate::outcome::Outcome;
 use crate::scripts;
 use crate::serve::serve_serial;
 use cl_base::{List, Memory, MemoryHeaders};
-use cl_core::Entry;
+use cl_history::Entry;
 use cl_frames::{MemorySink, MemorySource};
 use cl_rpc::How;
 use std::alloc::Global;

@@ -1,8 +1,8 @@
 ghost use Rattle.std.specs.Prelude.{◌≡◌, ◌++◌, [], ◌∷◌, ℕ, List, Option, Some, None, Ok, IfOk, IsTrue, false, slice_get, take};
 ghost use Rattle.std.specs.Io.KnownBytes.{append_known};
 ghost use Rattle.cl_base.specs.Faults.{HasCause};
-ghost use Rattle.cl_rpc.specs.declared.call.Parsed.{Parsed};
-ghost use Rattle.cl_core.specs.Standing.{IsIdle, finish_of, frames_of, jobs_of, jobs_out};
+ghost use Rattle.cl_history.specs.Given.{Given};
+ghost use Rattle.cl_core.specs.Standing.{IsIdle, WorksOn, finish_of, frames_of, jobs_of, messages_taken};
 ghost use Rattle.clsd.specs.First.{first_of};
 ghost use Rattle.clsd.specs.Serving.{frame_of, turn_of, EndsWork, IsEndOf, Keeps, LeavesIdle, Turns, Works};
 
@@ -31,8 +31,8 @@ pub fn take_message<K: Sink>(
     sink: &mut K,
     parsed: Parsed,
 ) -> Mem<Turn>
-    ensures turn { (messages : List Parsed) (held : List ℕ) → slice_get messages core.old.messages ≡ Some parsed
-        → Keeps messages core.old held → K.held sink.old ≡ Some held → Turns messages core.old parsed core.new (K.held sink.new) result }
+    ensures turn { (given : Given) (held : List ℕ) → slice_get given.messages (messages_taken core.old) ≡ Some parsed
+        → Keeps given core.old held → K.held sink.old ≡ Some held → Turns given core.old parsed core.new (K.held sink.new) result }
     ensures idle { IsIdle core.old → LeavesIdle core.new result }
     ensures cause { HasCause (K.faults sink.old) (K.faults sink.new) (result ≡ Ok Turn.SinkFailed) }
 {
@@ -64,9 +64,9 @@ fn turn_of(status: Option<u8>) -> Turn
 
 /// Does a job, and writes its reply.
 fn do_job<K: Sink>(alloc: Global, core: &mut Core, sink: &mut K, job: Job) -> Mem<Turn>
-    ensures turn { (messages : List Parsed) (held : List ℕ) → Works messages core.old job held → K.held sink.old ≡ Some held
-        → EndsWork messages core.old core.new (K.held sink.new) result }
-    ensures idle { jobs_out core.old ≡ job ∷ [] → core.old.ending ≡ None → core.old.finished ≡ false → LeavesIdle core.new result }
+    ensures turn { (given : Given) (held : List ℕ) → Works given core.old job held → K.held sink.old ≡ Some held
+        → EndsWork given core.old core.new (K.held sink.new) result }
+    ensures idle { WorksOn core.old job → LeavesIdle core.new result }
     ensures cause { HasCause (K.faults sink.old) (K.faults sink.new) (result ≡ Ok Turn.SinkFailed) }
 {
     let event = work(alloc, job);
@@ -121,6 +121,7 @@ fn write_reply<K: Sink>(alloc: Global, sink: &mut K, effect: &Effect) -> Mem<boo
             }
         }
         Effect::StartJob(_) => Ok(true),
+        Effect::Load(_) => Ok(true),
         Effect::Finish(_) => Ok(true),
     }
 }

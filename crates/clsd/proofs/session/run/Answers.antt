@@ -1,6 +1,6 @@
 use Rattle.std.proofs.Common.{◌≡◌, ◌++◌, refl, arith}
 use Rattle.clsd.proofs.Going.{exit_turn, sink_turn, memory_turn, at_the_edge, at_a_bad, at_a_fault, at_the_limit, for_memory, given_keeps, starts, goes_turn, idle_turn, unseen}
-use Rattle.clsd.specs.Sessions.{messages_in}
+use Rattle.clsd.specs.Sessions.{given_of}
 use Rattle.clsd.proofs.session.run.Goals as goal
 
 pub loop-count-init : goal.loop-count-init
@@ -37,28 +37,28 @@ returns-in-End-clause-session g c bytes told empty =
     let goes = c.loop-count.invariant.goes bytes told empty in
     let read = c.in-End.ensures.reads goes.behind c.loop-count.invariant.last goes.left_is in
     rw c.ended_with.ensures (at_the_edge bytes _ _ _ _ _ _ goes c.loop-count.invariant.room c.end.new.core c.end.result read
-    (c.end.ensures.turn (messages_in goes.given) goes.now (given_keeps goes)))
+    (c.end.ensures.turn (given_of goes.bodies) goes.now (given_keeps goes)))
 
 pub returns-in-Bad-clause-session : goal.returns-in-Bad-clause-session
 returns-in-Bad-clause-session g c bytes told empty =
     let goes = c.loop-count.invariant.goes bytes told empty in
     let read = c.in-Bad.ensures.reads goes.behind c.loop-count.invariant.last goes.left_is in
     rw c.ended_with-in-Bad.ensures (at_a_bad bytes _ _ _ _ _ _ goes c.loop-count.invariant.room c.end-in-Bad.new.core c.end-in-Bad.result c.in-Bad.offset read
-    (c.end-in-Bad.ensures.turn (messages_in goes.given) goes.now (given_keeps goes)))
+    (c.end-in-Bad.ensures.turn (given_of goes.bodies) goes.now (given_keeps goes)))
 
 pub returns-in-Failed-clause-session : goal.returns-in-Failed-clause-session
 returns-in-Failed-clause-session g c bytes told empty =
     let goes = c.loop-count.invariant.goes bytes told empty in
     let read = c.in-Failed.ensures.reads goes.behind c.loop-count.invariant.last goes.left_is in
     rw c.ended_with-in-Failed.ensures (at_a_fault bytes _ _ _ _ _ _ goes c.loop-count.invariant.room c.end-in-Failed.new.core c.end-in-Failed.result read
-    (c.end-in-Failed.ensures.turn (messages_in goes.given) goes.now (given_keeps goes)))
+    (c.end-in-Failed.ensures.turn (given_of goes.bodies) goes.now (given_keeps goes)))
 
 pub returns-in-Long-clause-session : goal.returns-in-Long-clause-session
 returns-in-Long-clause-session g c bytes told empty =
     let goes = c.loop-count.invariant.goes bytes told empty in
     let read = c.in-Long.ensures.reads goes.behind c.loop-count.invariant.last goes.left_is in
     rw c.ended_with-in-Long.ensures (at_the_limit bytes _ _ _ _ _ _ goes c.loop-count.invariant.room c.end-in-Long.new.core c.end-in-Long.result read
-    (c.end-in-Long.ensures.turn (messages_in goes.given) goes.now (given_keeps goes)))
+    (c.end-in-Long.ensures.turn (given_of goes.bodies) goes.now (given_keeps goes)))
 
 pub returns-in-Memory-clause-session : goal.returns-in-Memory-clause-session
 returns-in-Memory-clause-session g c bytes told empty =
@@ -66,7 +66,7 @@ returns-in-Memory-clause-session g c bytes told empty =
     let read = c.in-Memory.ensures.reads goes.behind c.loop-count.invariant.last goes.left_is in
     let more = unseen bytes _ _ _ _ _ _ goes c.loop-count.invariant.room read in
     rw c.ended_with-in-Memory.ensures (for_memory bytes _ _ _ _ _ _ goes c.loop-count.invariant.room c.end-in-Memory.new.core c.end-in-Memory.result read
-    (c.end-in-Memory.ensures.turn (messages_in (goes.given ++ more)) goes.now (goes.keeps more)))
+    (c.end-in-Memory.ensures.turn (given_of (goes.bodies ++ more)) goes.now (goes.keeps more)))
 
 pub loop-count-preserved : goal.loop-count-preserved
 loop-count-preserved g c = record {
