@@ -20,22 +20,22 @@ any_last p (y ∷ ys) x = any_more (p y) (list_any p (ys ++ x ∷ [])) (list_any
     any_more true b c d e same is = refl
     any_more false b c d e same is = same ∙ is
 
-forgot : (a b open : Bool) (x : Option Known) → (b ≡ true → open ≡ false)
-    → (if b then None else (if a && not open then None else x)) ≡ (if (a || b) && not open then None else x)
+forgot : (a b standing : Bool) (x : Option Known) → (b ≡ true → standing ≡ false)
+    → (if b then None else (if a && not standing then None else x)) ≡ (if (a || b) && not standing then None else x)
 forgot true true true x closed = absurd (false≢true (sym (closed refl)))
 forgot true true false x closed = refl
-forgot true false open x closed = refl
+forgot true false standing x closed = refl
 forgot false true true x closed = absurd (false≢true (sym (closed refl)))
 forgot false true false x closed = refl
-forgot false false open x closed = refl
+forgot false false standing x closed = refl
 
-stayed : (a b open : Bool) (x : Option Known) → (b ≡ true → open ≡ true)
-    → (if a && not open then None else x) ≡ (if (a || b) && not open then None else x)
-stayed true true open x stands = refl
-stayed true false open x stands = refl
+stayed : (a b standing : Bool) (x : Option Known) → (b ≡ true → standing ≡ true)
+    → (if a && not standing then None else x) ≡ (if (a || b) && not standing then None else x)
+stayed true true standing x stands = refl
+stayed true false standing x stands = refl
 stayed false true true x stands = refl
 stayed false true false x stands = absurd (false≢true (stands refl))
-stayed false false open x stands = refl
+stayed false false standing x stands = refl
 
 pub forgotten : (before now start : Headers) (texts : List ℕ → Option (List ℕ)) (some more : List (List ℕ)) (path : List ℕ) → more ≡ some ++ path ∷ [] → is_some (texts path) ≡ false
     → ((q : List ℕ) → known_at now q ≡ (if bytes_eq path q then None else known_at before q))

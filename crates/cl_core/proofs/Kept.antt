@@ -48,7 +48,7 @@ none_by (Some a) (event.NoMemory job) calm heard = absurd (false≢true heard)
 none_by (Some a) (event.End e) calm heard = absurd (false≢true heard)
 
 pub none_awaited : (old : Core) (e : Event) → NoRead e → hears old e ≡ true → old.awaited ≡ None
-none_awaited old e calm heard = none_by old.awaited e no (second (not old.finished) (is_awaited old.awaited e) heard)
+none_awaited old e calm heard = none_by old.awaited e calm (second (not old.finished) (is_awaited old.awaited e) heard)
 
 some_by : (o : Option Awaited) (path : List ℕ) (read : Read) → is_awaited o (event.Loaded path read) ≡ true → (a : Awaited) × (o ≡ Some a) × (bytes_eq a.path path ≡ true)
 some_by None path read heard = absurd (false≢true heard)

@@ -1,5 +1,5 @@
 -- What can be told to hold or not.
-use Rattle.std.proofs.Common.{◌≡◌, ◌≢◌, ◌⊎◌, ℕ, zero, suc, ◌+◌, ◌<◌, ◌≤◌, Bool, true, false, arith, inl, inr, refl, subst}
+use Rattle.std.proofs.Common.{◌≡◌, ◌⊎◌, ℕ, zero, suc, ◌<◌, ◌≤◌, Bool, true, false, arith, inl, inr, refl, subst}
 use Rattle.cl_lex.proofs.Pass.{one_more}
 
 abbrev pub Dec : Type 0 → Type 0

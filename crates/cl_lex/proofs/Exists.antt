@@ -1,13 +1,12 @@
 -- A text can be cut into items.
-use Rattle.std.proofs.Common.{◌≡◌, ◌≢◌, ◌⊎◌, ℕ, zero, suc, ◌+◌, ◌-◌, ◌<◌, ◌≤◌, List, [], ◌∷◌, Bool, true, false, arith, inl, inr, refl, sym, ap, ◌∙◌, subst, length, slice_index}
+use Rattle.std.proofs.Common.{◌≡◌, ◌≢◌, ◌⊎◌, ℕ, zero, suc, ◌+◌, ◌-◌, ◌<◌, ◌≤◌, List, [], ◌∷◌, Bool, true, false, arith, inl, inr, refl, sym, ◌∙◌, length, slice_index}
 use Rattle.std.proofs.lemmas.Bool.{false≢true}
 use Rattle.cl_base.specs.declared.token.Kind.TheVariants as kind
-use Rattle.cl_base.specs.declared.token.Lexed.{Lexed}
 use Rattle.cl_lex.specs.declared.item.Item.{Item}
 use Rattle.cl_lex.specs.declared.item.ItemKind.{ItemKind}
 use Rattle.cl_lex.specs.declared.item.ItemKind.TheVariants as item
 use Rattle.cl_lex.specs.Bytes.{is_blank, is_digit, is_name_byte, is_name_start, is_quote}
-use Rattle.cl_lex.specs.Spelling.{AllPass, HasNone, IsBetween, IsBlockComment, IsChar, IsHeader, IsIdent, IsLineComment, IsNewLine, IsNumber, IsOpenComment, IsQuoted, IsSpace, IsStr, char_prefix, goes_on_number, is_escaped, str_prefix}
+use Rattle.cl_lex.specs.Spelling.{AllPass, HasNone, IsBetween, IsBlockComment, IsChar, IsHeader, IsIdent, IsLineComment, IsNumber, IsOpenComment, IsQuoted, IsStr, char_prefix, goes_on_number, is_escaped, str_prefix}
 use Rattle.cl_lex.specs.Punctuators.{is_punctuator}
 use Rattle.cl_lex.specs.Source.{characters, values}
 use Rattle.cl_lex.specs.Items.{IsItem, IsLoneQuote, IsLongest, IsStray, Spells, Tiles, alone_len, takes_header}

@@ -22,3 +22,5 @@ mod replies;
 mod sessions;
 #[cfg(test)]
 mod snapshots;
+#[cfg(test)]
+mod steps;

@@ -89,11 +89,11 @@ fn event_of(alloc: Global, jobs: &[Job], line: &str) -> Mem<Event> {
     })
 }
 
-fn request(id: Id, call: Call) -> Event {
+pub fn request(id: Id, call: Call) -> Event {
     Event::Message(Parsed::Request { id, call })
 }
 
-fn notification(call: Call) -> Event {
+pub fn notification(call: Call) -> Event {
     Event::Message(Parsed::Notification(call))
 }
 
@@ -114,7 +114,7 @@ fn text_id(alloc: Global, byte: u8) -> Mem<Id> {
     Ok(Id::Text(text))
 }
 
-fn digit_of(text: &str) -> u8 {
+pub fn digit_of(text: &str) -> u8 {
     match text.as_bytes() {
         [digit, ..] => digit.saturating_sub(48),
         [] => 0,
@@ -122,7 +122,7 @@ fn digit_of(text: &str) -> u8 {
 }
 
 /// Keeps the jobs that are started.
-fn keep_jobs(alloc: Global, jobs: &mut Vec<Job>, effects: &[Effect]) -> Mem<()> {
+pub fn keep_jobs(alloc: Global, jobs: &mut Vec<Job>, effects: &[Effect]) -> Mem<()> {
     for effect in effects {
         if let Effect::StartJob(job) = effect {
             jobs.push(job.duplicate(alloc)?)?;

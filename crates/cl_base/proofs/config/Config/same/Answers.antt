@@ -1,4 +1,3 @@
-use Rattle.std.proofs.Common.{rules, ◌∙◌}
 use Rattle.cl_base.proofs.SameSettings.{settings_Decides}
 use Rattle.cl_base.proofs.config.Config.same.Goals as goal
 

@@ -1,0 +1,231 @@
+//! Worked examples of what a session's core does at each event. In the table a line `new` begins a session, and every
+//! other line is an event with what it must give. `done` and `fail` have the number of a job, from 0. A job is told with
+//! its number, its message, its mark, and its document's version and text; a reply with its message and its mark. `known`
+//! asks what is known of a path, and `length` how many entries the journal has.
+
+use crate::sessions::{digit_of, keep_jobs, notification, request};
+use cl_base::{Answer, Config, Duplicate, Known, List, Mem, Path, Text};
+use cl_core::{Core, Effect, Ending, Event};
+use cl_query::{Job, JobAnswer, run_job};
+use cl_rpc::{Call, Id, Out, Parsed, Reply};
+use std::alloc::Global;
+use std::test::Fail;
+
+#[derive(Drop)]
+struct Session {
+    core: Core,
+    jobs: Vec<Job>,
+}
+
+#[test]
+fn steps(rt: HostRuntime) -> Result<(), Fail> {
+    let alloc = rt.alloc();
+    let mut session = fresh(alloc)?;
+    for line in table().lines() {
+        if line == "new" {
+            session = fresh(alloc)?;
+            continue;
+        }
+        let (asked, wanted) = line.split_once(" => ").unwrap_or((line, "?"));
+        let told = given_at(alloc, &mut session, asked)?;
+        assert_eq!(rt; told.as_str(), wanted, "{line}");
+    }
+    Ok(())
+}
+
+/// A session in which nothing has happened.
+fn fresh(alloc: Global) -> Mem<Session> {
+    let config = Config::new(alloc, List::new(alloc), List::new(alloc))?;
+    Ok(Session {
+        core: Core::new(alloc, &config)?,
+        jobs: Vec::new(alloc),
+    })
+}
+
+/// What a line's event or question gives.
+fn given_at(alloc: Global, session: &mut Session, line: &str) -> Mem<String> {
+    let (word, rest) = cut(line);
+    if word == "known" {
+        return known(alloc, &session.core, rest);
+    }
+    if word == "length" {
+        let length = session.core.journal().len();
+        return Ok(format!(in alloc; "{length}")?);
+    }
+    let event = event_of(alloc, session.jobs.as_slice(), word, rest)?;
+    let effects = session.core.step(alloc, event)?;
+    keep_jobs(alloc, &mut session.jobs, effects.as_slice())?;
+    told(alloc, effects.as_slice())
+}
+
+/// A line's first word, and the rest.
+fn cut(line: &str) -> (&str, &str) {
+    line.split_once(' ').unwrap_or((line, ""))
+}
+
+/// The text that is known of a path.
+fn known(alloc: Global, core: &Core, path: &str) -> Mem<String> {
+    let headers = core.headers(alloc)?;
+    let path = Path::new(alloc, path)?;
+    let text = match headers.get(&path) {
+        Some(Known::Found(text)) => str::from_utf8(text.bytes()).unwrap_or("?"),
+        Some(_) => "?",
+        None => "-",
+    };
+    Ok(String::from_str(alloc, text)?)
+}
+
+/// The event that is told by its word and the rest of its line.
+fn event_of(alloc: Global, jobs: &[Job], word: &str, rest: &str) -> Mem<Event> {
+    let (first, rest) = cut(rest);
+    let (second, text) = cut(rest);
+    let id = Id::Number(i64::from(digit_of(first)));
+    Ok(match word {
+        "init" => request(id, Call::Initialize),
+        "shutdown" => request(id, Call::Shutdown),
+        "exit" => notification(Call::Exit),
+        "ask" => request(id, Call::Symbols(Path::new(alloc, second)?)),
+        "cancel" => notification(Call::Cancel(id)),
+        "open" | "change" | "close" | "watched" => {
+            notification(document_call(alloc, word, first, digit_of(second), text)?)
+        }
+        "done" => end_of(alloc, jobs, digit_of(first), true)?,
+        "fail" => end_of(alloc, jobs, digit_of(first), false)?,
+        _ => Event::End(Ending::Edge),
+    })
+}
+
+/// What is told of a document.
+fn document_call(alloc: Global, word: &str, path: &str, version: u8, text: &str) -> Mem<Call> {
+    let path = Path::new(alloc, path)?;
+    let version = i64::from(version);
+    let text = Text::new(alloc, text.as_bytes())?;
+    Ok(match word {
+        "open" => Call::DidOpen(path, version, text),
+        "change" => Call::DidChange(path, version, Some(text)),
+        "close" => Call::DidClose(path),
+        _ => {
+            let mut paths = List::new(alloc);
+            paths.push(path)?;
+            Call::Watched(paths)
+        }
+    })
+}
+
+/// The end of the job of this number: its answer, or that memory was wanting.
+fn end_of(alloc: Global, jobs: &[Job], number: u8, is_done: bool) -> Mem<Event> {
+    let Some(job) = jobs.get(usize::from(number)) else {
+        return Ok(Event::Message(Parsed::Ignored));
+    };
+    let job = job.duplicate(alloc)?;
+    if !is_done {
+        return Ok(Event::NoMemory(job));
+    }
+    Ok(match run_job(alloc, job) {
+        JobAnswer::Done(done) => Event::Done(done),
+        JobAnswer::Need(need) => Event::Need(need),
+        JobAnswer::Memory(job) => Event::NoMemory(job),
+    })
+}
+
+/// The effects, in order.
+fn told(alloc: Global, effects: &[Effect]) -> Mem<String> {
+    let mut line = String::new(alloc);
+    for effect in effects {
+        let word = match effect {
+            Effect::Reply(reply) => reply_told(alloc, reply)?,
+            Effect::StartJob(job) => job_told(alloc, job)?,
+            Effect::Load(path) => format!(in alloc; "load {}.", path.text())?,
+            Effect::Finish(status) => format!(in alloc; "finish {status}.")?,
+        };
+        line.push_str(word.as_str())?;
+    }
+    Ok(line)
+}
+
+fn job_told(alloc: Global, job: &Job) -> Mem<String> {
+    let (number, message, mark, version) = (job.number, job.message, job.mark, job.version);
+    let text = str::from_utf8(job.text.bytes()).unwrap_or("?");
+    Ok(format!(in alloc; "job {number} of {message} at {mark}, {version} {text}.")?)
+}
+
+fn reply_told(alloc: Global, reply: &Reply) -> Mem<String> {
+    let (message, mark) = (reply.message, reply.mark);
+    Ok(match &reply.out {
+        Out::Capabilities => format!(in alloc; "{message} at {mark} capabilities.")?,
+        Out::Null => format!(in alloc; "{message} at {mark} null.")?,
+        Out::Error(code) => format!(in alloc; "{message} at {mark} {code}.")?,
+        Out::Answer(Answer::Symbols(symbols)) => {
+            let first = match symbols.get(0) {
+                Some(symbol) => str::from_utf8(symbol.name.bytes()).unwrap_or("?"),
+                None => "none",
+            };
+            format!(in alloc; "{message} at {mark} answer {first}.")?
+        }
+    })
+}
+
+fn table() -> &'static str {
+    "new
+open /a.c 1 int a; => 
+known /a.c => -
+ask 7 /a.c => 1 at 2 -32002.
+init 1 => 2 at 4 capabilities.
+init 1 => 3 at 6 -32600.
+ask 7 /a.c => 4 at 8 -32602.
+length => 9
+new
+init 1 => 0 at 1 capabilities.
+open /a.c 1 int a; => 
+known /a.c => int a;
+watched /a.c => 
+known /a.c => int a;
+change /b.c 2 int b; => 
+known /b.c => -
+ask 7 /a.c => job 0 of 4 at 6, 1 int a;.
+ask 8 /a.c => job 1 of 5 at 7, 1 int a;.
+change /a.c 9 int b; => 4 at 8 -32801.5 at 9 -32801.
+done 0 => 
+fail 1 => 
+known /a.c => int b;
+ask 7 /a.c => job 2 of 7 at 11, 9 int b;.
+fail 0 => 
+fail 2 => 7 at 11 -32803.
+done 2 => 
+ask 7 /a.c => job 3 of 8 at 13, 9 int b;.
+close /a.c => 
+known /a.c => -
+watched /a.c => 
+open /a.c 1 int c; => 8 at 16 -32801.
+done 3 => 
+known /a.c => int c;
+length => 17
+new
+init 1 => 0 at 1 capabilities.
+open /a.c 1 int a; => 
+open /b.c 3 int b; => 
+ask 1 /a.c => job 0 of 3 at 5, 1 int a;.
+ask 2 /b.c => job 1 of 4 at 6, 3 int b;.
+ask 3 /a.c => job 2 of 5 at 7, 1 int a;.
+change /a.c 2 int x; => 3 at 8 -32801.5 at 9 -32801.
+done 2 => 
+cancel 1 => 
+cancel 2 => 4 at 12 -32800.
+done 1 => 
+exit => finish 1.
+ask 1 /a.c => 
+end => 
+length => 14
+new
+init 1 => 0 at 1 capabilities.
+open /a.c 1 int a; => 
+ask 1 /a.c => job 0 of 2 at 4, 1 int a;.
+ask 2 /a.c => job 1 of 3 at 5, 1 int a;.
+shutdown 3 => 4 at 6 null.
+ask 4 /a.c => 5 at 8 -32600.
+exit => 
+done 1 => 3 at 5 answer a.
+end => 
+done 0 => 2 at 4 answer a.finish 0.
+length => 12"
+}
