@@ -6,6 +6,8 @@ use Rattle.cl_frames.specs.Frames.{EndsWithin, ReadsFrame, whole, wrong, cut, fi
 use Rattle.cl_frames.specs.Sessions.{IsFront, SplitsInto, EndsAs, edge, bad, long, after_last}
 use Rattle.cl_frames.specs.Sessions as frames
 use Rattle.cl_frames.proofs.SessionLemmas.{front_nil, front_more, front_last, front_end, some_split, ends_wrong, ends_cut, ends_long}
+use Rattle.cl_base.specs.declared.config.Define.{Define}
+use Rattle.cl_base.specs.declared.config.Settings.{Settings}
 use Rattle.cl_base.specs.declared.memory.Memory.{Memory as NoMemory}
 use Rattle.cl_frames.specs.declared.frame.Frame.TheVariants.{Body, End, Bad, Failed, Long, Memory}
 use Rattle.cl_rpc.specs.Messages.{message_in}
@@ -385,3 +387,9 @@ never_began bytes left held left_is held_is = record {
   settled = tt;
   in_time = tt;
 }
+
+-- settings that are made of no folders and no macros
+pub no_settings_but : (these those : Settings) (includes : List (List ℕ)) (defines : List Define) → these ≡ no_settings → those ≡ record { includes = includes; defines = defines }
+    → includes ≡ [] → defines ≡ [] → these ≡ those
+no_settings_but these those includes defines plain made no_includes no_defines =
+    plain ∙ sym (made ∙ rw no_includes (rw no_defines refl))

@@ -22,8 +22,9 @@ use Rattle.cl_core.specs.Standing as standing
 use Rattle.cl_core.specs.Standing.{EndsTurn, IsIdle, IsNext, IsReady, StandsFor, TakesTurn, WorksOn, WritesOn, finish_of, frames_of, jobs_of, journal_of, messages_taken, past_of}
 use Rattle.clsd.specs.First.{first_of}
 use Rattle.clsd.specs.declared.turn.Turn.{Turn}
-use Rattle.clsd.specs.declared.turn.Turn.TheVariants.{Ends, GoesOn}
-use Rattle.clsd.specs.Serving.{Holds, IsCutOff, IsEndOf, IsOver, Keeps, LeavesIdle, Turns, Works, turn_of}
+use Rattle.clsd.specs.declared.turn.Turn.TheVariants.{Ends, GoesOn, SinkFailed}
+use Rattle.cl_base.specs.declared.memory.Memory.{Memory}
+use Rattle.clsd.specs.Serving.{EndsWork, Holds, IsCutOff, IsEndOf, IsOver, Keeps, LeavesIdle, Turns, Works, turn_of}
 
 -- what a session stands for and has written, before or after a step
 pub record Stands (given : Given) (core : Core) (held : List ℕ) : Type 0 where
@@ -145,7 +146,10 @@ pub starts_job : (old new : Core) (p : Parsed) (effects : List Effect) (job : Jo
     → (is_exit (class_of p) ≡ false) × WorksOn new job
 starts_job old new p effects job turn first = starts_job_if (is_exit (class_of p)) old new effects job turn first
 
-zero_or_one : (b : Bool) → ((if b then 0 else 1) ≡ 0) ⊎ ((if b then 0 else 1) ≡ 1)
+abbrev exit_status : Bool → ℕ
+exit_status b = if b then 0 else 1
+
+zero_or_one : (b : Bool) → (exit_status b ≡ 0) ⊎ (exit_status b ≡ 1)
 zero_or_one true = inl refl
 zero_or_one false = inr refl
 
@@ -175,3 +179,17 @@ no_job_idle_if false old new effects (loads, goes_on, inr (job, started, works))
 
 pub no_job_idle : (old new : Core) (p : Parsed) (effects : List Effect) → TakesTurn (is_exit (class_of p)) old new effects → None ≡ first_of (jobs_of effects) → LeavesIdle new (Ok (turn_of (finish_of effects)))
 no_job_idle old new p effects turn none = no_job_idle_if (is_exit (class_of p)) old new effects turn none
+
+-- what its job's end leaves is what the turn leaves
+pub job_turn : (given : Given) (old mid new : Core) (p : Parsed) (sink : Option (List ℕ)) (res : Result Turn Memory) → messages_taken mid ≡ messages_taken old + 1 → is_exit (class_of p) ≡ false
+    → EndsWork given mid new sink res → Turns given old p new sink res
+job_turn given old mid new p sink (Ok GoesOn) count goes_on ends = (ends.0, ends.1 ∙ count, goes_on)
+job_turn given old mid new p sink (Ok (Ends status)) count goes_on ends = absurd ends
+job_turn given old mid new p sink (Ok SinkFailed) count goes_on ends = (ends.0, let same : messages_taken new ≡ messages_taken old + 1 = ends.1 ∙ count in omega arith)
+job_turn given old mid new p sink (Err memory) count goes_on ends = (ends.0, let same : messages_taken new ≡ messages_taken old + 1 = ends.1 ∙ count in omega arith)
+
+-- after a job's end
+pub ends_idle : (given : Given) (old new : Core) (now : List ℕ) (sink : Option (List ℕ)) (effects : List Effect) → Stands given new now → sink ≡ Some now
+    → (messages_taken new ≡ messages_taken old) × EndsTurn new effects → EndsWork given old new sink (Ok GoesOn)
+ends_idle given old new now sink effects stands told ends =
+    ((now, told, record { stands = stands.stands; writes = stands.writes; settled = stands.settled; idle = ends.1.idle }), ends.0)

@@ -5,7 +5,7 @@ use Rattle.clsd.proofs.serve.serve.Goals as goal
 
 pub returns-in-Err-clause-session : goal.returns-in-Err-clause-session
 returns-in-Err-clause-session g c bytes told empty =
-    rw c.outcome-in-Err.ensures.ended.0 (rw c.outcome-in-Err.ensures.ended.1 (rw c.outcome-in-Err.ensures.journal (never_began bytes _ _ told empty)))
+    rw c.outcome-in-Err.ensures.ended.0 (rw c.outcome-in-Err.ensures.ended.1 (rw c.outcome-in-Err.ensures.journal (rw c.new.ensures (never_began bytes _ _ told empty))))
 
 pub returns-in-Ok-clause-complete : goal.returns-in-Ok-clause-complete
 returns-in-Ok-clause-complete g c bytes bodies rest told empty splits still quiet =
