@@ -1,12 +1,11 @@
 -- The requests that wait stand in the history after a message, too.
-use Rattle.std.proofs.Common.{◌≡◌, ℕ, ℤ, ◌+◌, ◌<◌, ◌≤◌, List, [], ◌∷◌, ◌++◌, map, filter, length, ap, sym, ◌∙◌, refl, arith, subst, Bool, true, false, Some, None, Option}
-use Rattle.std.specs.Prelude.{not, is_some, nat_eq, if◌then◌else◌, option_map}
+use Rattle.std.proofs.Common.{◌≡◌, ℕ, ℤ, ◌+◌, ◌<◌, ◌≤◌, List, [], ◌∷◌, ◌++◌, map, length, ap, sym, ◌∙◌, refl, arith, subst, true, false, Some, None, Option}
+use Rattle.std.specs.Prelude.{not, nat_eq, option_map}
 use Rattle.std.specs.List.{list_any, AllByRecursion}
 use Rattle.std.proofs.lemmas.Bool.{eq-eqb, ne_eqb, or_right}
 use Rattle.std.proofs.lemmas.List.{length-reverse}
 use Rattle.std.proofs.lemmas.List.Elements.{All-filter, All-append, All-from_recursion, recursion_from_All}
 use Rattle.cl_base.specs.declared.query.Query.{Query}
-use Rattle.cl_headers.specs.Headers.{Headers}
 use Rattle.cl_store.specs.declared.docs.Doc.{Doc}
 use Rattle.cl_store.specs.Docs.{doc_at}
 use Rattle.cl_rpc.specs.declared.id.Id.{Id}
@@ -17,13 +16,13 @@ use Rattle.cl_history.specs.declared.entry.Entry.TheVariants as entry
 use Rattle.cl_history.specs.Given.{Given, said, received}
 use Rattle.cl_history.specs.Refusals.{is_open}
 use Rattle.cl_history.specs.History.{End, is_meant, is_initialised, is_initialising, text_at, version_at}
-use Rattle.cl_history.specs.Headers.{AreHeadersAt, headers_at, past_at}
+use Rattle.cl_history.specs.Headers.{AreHeadersAt, past_at}
 use Rattle.cl_history.specs.Legal.{place, before}
 use Rattle.cl_history.proofs.Accepting.{initialised_if_accepted}
 use Rattle.cl_core.specs.declared.core_state.Core.{Core}
 use Rattle.cl_core.specs.declared.waiting.Waiting.{Waiting}
 use Rattle.cl_core.specs.Waiting.{has_id, class_of_waiting}
-use Rattle.cl_core.specs.Deciding.{texts_of, versions_of, core_refusal, ends_by, entry_of, left_by, others_than, waiting_for, started_if, started_by}
+use Rattle.cl_core.specs.Deciding.{texts_of, core_refusal, ends_by, entry_of, left_by, others_than, waiting_for, started_if, started_by}
 use Rattle.cl_core.specs.Steps.{pending_after}
 use Rattle.cl_core.specs.Standing.{Asks, StandsFor, past_of}
 use Rattle.cl_core.proofs.Onto.{onto, length_onto, unchanged, past_kept, past_whole}

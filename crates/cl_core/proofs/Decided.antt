@@ -1,15 +1,14 @@
 -- A decision that is applied takes its message.
 use Rattle.std.proofs.Common.{◌≡◌, ◌⊎◌, inl, inr, ⊎_elim, ℕ, ℤ, ◌+◌, ◌<◌, List, [], ◌∷◌, ◌++◌, length, map, filter, refl, sym, ap, ◌∙◌, subst, Bool, true, false}
-use Rattle.std.specs.Prelude.{Option, Some, None, not, is_some, ◌&&◌, ◌||◌}
+use Rattle.std.specs.Prelude.{Option, Some, None}
 use Rattle.std.specs.List.{list_any, AllByRecursion}
-use Rattle.std.proofs.lemmas.Bool.{false≢true}
 use Rattle.cl_base.specs.declared.query.Query.{Query}
-use Rattle.cl_headers.specs.Headers.{Headers, known_at}
+use Rattle.cl_headers.specs.Headers.{known_at}
 use Rattle.cl_store.specs.declared.docs.Doc.{Doc}
 use Rattle.cl_store.specs.Docs.{doc_at}
 use Rattle.cl_rpc.specs.declared.id.Id.{Id}
 use Rattle.cl_rpc.specs.declared.out.Reply.{Reply}
-use Rattle.cl_rpc.specs.Classes.{Class, initialises, shuts_down, queries, unknown, bad_params, invalid, opens, changes, closes, cancels, watched, exits, dropped}
+use Rattle.cl_rpc.specs.Classes.{Class, queries}
 use Rattle.cl_history.specs.declared.entry.Entry.{Entry}
 use Rattle.cl_history.specs.declared.entry.Entry.TheVariants as entry
 use Rattle.cl_history.specs.Refusals.{is_open, refusal_of}
@@ -26,7 +25,7 @@ use Rattle.cl_core.specs.Numbered.{IsNumbered}
 use Rattle.cl_core.specs.Deciding.{texts_of, core_refusal, ends_by, entry_of, meant_by, others_than, replies_of, started_by, started_if, waiting_for}
 use Rattle.cl_core.specs.Steps.{Takes, entries_of, ending_after, finish, finishes, pending_after, start_jobs}
 use Rattle.cl_core.specs.Decisions.{Applies, Decides, IsEnding, end_behind, started_in, waiting_after}
-use Rattle.cl_core.proofs.Turning.{OneAtMost, few_started}
+use Rattle.cl_core.proofs.Turning.{few_started}
 
 -- the requests that are meant, by an id or by a document
 pub meant_which : (w : Which) (ws : List Waiting) → IsEnding (Some w) → filter (is_meant w) ws ≡ meant_by (end_behind (Some w)) ws

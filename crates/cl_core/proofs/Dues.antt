@@ -1,23 +1,23 @@
 -- What is due after a message is what the core replies.
-use Rattle.std.proofs.Common.{◌≡◌, ℕ, ℤ, ◌+◌, List, [], ◌∷◌, map, filter, length, reverse, ap, sym, ◌∙◌, refl, Bool, true, false, Some, None, Option}
-use Rattle.std.specs.Prelude.{◌&&◌, is_some, option_map, slice_get, unwrap_or, if◌then◌else◌}
+use Rattle.std.proofs.Common.{◌≡◌, ℕ, ℤ, ◌+◌, List, [], ◌∷◌, map, filter, length, ap, sym, ◌∙◌, refl, Bool, true, false, Some, None, Option}
+use Rattle.std.specs.Prelude.{◌&&◌, is_some, slice_get, unwrap_or, if◌then◌else◌}
 use Rattle.std.specs.List.{list_any, AllByRecursion}
 use Rattle.cl_rpc.specs.declared.id.Id.{Id}
 use Rattle.cl_rpc.specs.declared.call.Parsed.{Parsed}
 use Rattle.cl_rpc.specs.declared.call.Parsed.TheVariants as parsed
 use Rattle.cl_rpc.specs.declared.out.How.{How}
 use Rattle.cl_rpc.specs.declared.out.Reply.{Reply}
-use Rattle.cl_rpc.specs.Classes.{Class, class_of, initialises, shuts_down, queries, unknown, bad_params, invalid, opens, changes, closes, cancels, watched, exits, dropped}
+use Rattle.cl_rpc.specs.Classes.{Class, class_of, initialises, shuts_down, queries, unknown, bad_params, invalid, opens, changes, cancels}
 use Rattle.cl_history.specs.declared.entry.Entry.{Entry}
 use Rattle.cl_history.specs.declared.entry.Entry.TheVariants as entry
 use Rattle.cl_history.specs.Given.{Given, said}
 use Rattle.cl_history.specs.Refusals.{refusal_of, is_open, document_of}
-use Rattle.cl_history.specs.History.{refusal, refusal_by_id, asks_by, pending, is_pending, is_initialised, is_shut_down, text_at, End, by_id, on_document, ends, is_meant, pending_meant}
+use Rattle.cl_history.specs.History.{refusal, refusal_by_id, asks_by, is_pending, is_initialised, is_shut_down, text_at, End, by_id, on_document, ends, is_meant, pending_meant}
 use Rattle.cl_history.specs.Legal.{Due, all_as, due_to_accepted, due_by, due_to, how_ended, owed}
 use Rattle.cl_core.specs.declared.core_state.Core.{Core}
 use Rattle.cl_core.specs.declared.waiting.Waiting.{Waiting}
 use Rattle.cl_core.specs.Waiting.{has_id, number_of, class_of_waiting}
-use Rattle.cl_core.specs.Deciding.{texts_of, core_refusal, core_refusal_by_id, entry_of, ended, ends_by, meant_by, replies_if_accepted, replies_by, replies_of}
+use Rattle.cl_core.specs.Deciding.{texts_of, core_refusal, core_refusal_by_id, ended, ends_by, meant_by, replies_if_accepted, replies_by, replies_of}
 use Rattle.cl_core.specs.Standing.{Asks, StandsFor, past_of}
 
 pub said_is : (given : Given) (n : ℕ) (p : Parsed) → slice_get given.messages n ≡ Some p → said given n ≡ class_of p

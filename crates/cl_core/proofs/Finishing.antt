@@ -2,7 +2,6 @@
 use Rattle.std.proofs.Common.{◌≡◌, ◌⊎◌, ⊎_elim, ℕ, List, [], ◌∷◌, ◌++◌, map, Bool, true, false, refl, sym, ap, ◌∙◌, subst, append-nil, append_assoc, MatchBool}
 use Rattle.std.proofs.lemmas.Bool.{false≢true}
 use Rattle.std.specs.Prelude.{Option, Some, None, is_some, not, reverse, ◌&&◌, if◌then◌else◌}
-use Rattle.std.specs.Str.{bytes_eq}
 use Rattle.cl_base.specs.declared.headers.Read.{Read}
 use Rattle.cl_headers.specs.Headers.{Headers}
 use Rattle.cl_query.specs.declared.job.Job.{Job}
@@ -26,8 +25,8 @@ use Rattle.cl_core.specs.Steps.{Takes, Completes, StartsAgain, Awaits, Needs, Lo
 use Rattle.cl_core.specs.Standing.{IsIdle, StandsFor, finish_of, journal_of}
 use Rattle.cl_core.specs.Runs.{Put, TakesPut, Runs}
 use Rattle.cl_core.specs.Ends.{status_by, status_by_class, status_of_put, earlier_or, first_status, over, EndsAs, EndsOnce}
-use Rattle.cl_core.proofs.JobStands.{by_known, numbers_again}
-use Rattle.cl_core.proofs.Turning.{finish_after_replies, finish_after_jobs, exit_keeps}
+use Rattle.cl_core.proofs.JobStands.{by_known}
+use Rattle.cl_core.proofs.Turning.{finish_after_replies, exit_keeps}
 use Rattle.cl_core.proofs.Running.{starts, goes_run}
 
 -- the status with which a core is over

@@ -485,6 +485,7 @@ number_one m w (v ∷ ws) e = number_by (on_number m v) m w v ws refl e (number_
   where
     head_of_list : (x y : Waiting) (xs ys : List Waiting) → x ∷ xs ≡ y ∷ ys → x ≡ y
     head_of_list x y xs ys e = ap (λ (us : List Waiting). elim us [ [] ↦ x | u ∷ more ↦ u ]) e
+
     number_by : (b : Bool) (m : ℕ) (w v : Waiting) (ws : List Waiting) → on_number m v ≡ b → w ∷ [] ≡ cond b (v ∷ filter (on_number m) ws) (filter (on_number m) ws)
         → (w ∷ [] ≡ filter (on_number m) ws → w.job.message ≡ m) → w.job.message ≡ m
     number_by true m w v ws is e more = ap (λ (u : Waiting). u.job.message) (head_of_list w v [] (filter (on_number m) ws) e) ∙ eqb-true v.job.message m is

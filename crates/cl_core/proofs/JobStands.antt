@@ -1,5 +1,5 @@
 -- The end of a job, its need, a read, and the end of the input keep what a core stands for.
-use Rattle.std.proofs.Common.{◌≡◌, ◌⊎◌, inl, inr, ⊎_elim, ℕ, ◌+◌, ◌<◌, ◌≤◌, List, [], ◌∷◌, ◌++◌, length, map, reverse, not, refl, sym, ap, ◌∙◌, subst, arith, nat_eq, Bool, true, false, eqb-true}
+use Rattle.std.proofs.Common.{◌≡◌, ◌⊎◌, ⊎_elim, ℕ, ◌+◌, ◌<◌, ◌≤◌, List, [], ◌∷◌, ◌++◌, length, map, reverse, not, refl, sym, ap, ◌∙◌, subst, arith, nat_eq, Bool, true, false}
 use Rattle.std.specs.Prelude.{Contains, Option, Some, None, is_some, if◌then◌else◌, slice_get}
 use Rattle.std.specs.Bool.{MatchBool}
 use Rattle.std.specs.List.{AllByRecursion}
@@ -12,22 +12,21 @@ use Rattle.cl_headers.specs.Headers.{Headers, known_at}
 use Rattle.cl_rpc.specs.declared.out.How.{How}
 use Rattle.cl_rpc.specs.declared.out.How.TheVariants as how
 use Rattle.cl_rpc.specs.declared.out.Out.{Out}
-use Rattle.cl_rpc.specs.Classes.{queries}
 use Rattle.cl_query.specs.declared.job.Job.{Job}
 use Rattle.cl_query.specs.AnswerOf.{NeedsOf}
 use Rattle.cl_history.specs.declared.entry.Entry.{Entry}
 use Rattle.cl_history.specs.declared.entry.Entry.TheVariants as entry
-use Rattle.cl_history.specs.Given.{Given, received, loaded}
-use Rattle.cl_history.specs.History.{pending, text_at, without}
+use Rattle.cl_history.specs.Given.{Given}
+use Rattle.cl_history.specs.History.{text_at, without}
 use Rattle.cl_history.specs.Headers.{AreHeadersAt, headers_at, last_read, or_before, past_at, text_or, told}
-use Rattle.cl_history.specs.Legal.{Due, owed, rest_of, place, IsMark, IsNeeded, MayAnswer, MayLoad, MayReply, AllFollow}
+use Rattle.cl_history.specs.Legal.{Due, owed, rest_of, place, IsMark, MayAnswer, MayLoad, MayReply}
 use Rattle.cl_core.specs.declared.core_state.Core.{Core}
 use Rattle.cl_core.specs.declared.core_state.Awaited.{Awaited}
 use Rattle.cl_core.specs.declared.event.Ending.{Ending}
 use Rattle.cl_core.specs.declared.event.Effect.{Effect}
 use Rattle.cl_core.specs.declared.waiting.Waiting.{Waiting}
-use Rattle.cl_core.specs.Waiting.{number_of, class_of_waiting}
-use Rattle.cl_core.specs.Steps.{Replies, Completes, Stops, StartsAgain, Awaits, Needs, Loads, IsStale, IsLost, again, with_again, begun_again, left_after, replied, finishes, first_ending, status_of, is_nil}
+use Rattle.cl_core.specs.Waiting.{number_of}
+use Rattle.cl_core.specs.Steps.{Replies, Completes, Stops, StartsAgain, Awaits, Needs, Loads, IsStale, IsLost, again, begun_again, replied}
 use Rattle.cl_core.specs.Standing.{past_of, Asks, AwaitsSo, StandsAt, StandsFor}
 use Rattle.cl_core.proofs.Onto.{past_kept_one, past_whole}
 use Rattle.cl_core.proofs.Waits.{messages_left, contains_as, one_of, all_left}

@@ -1,8 +1,8 @@
 -- Which jobs of a run are out.
-use Rattle.std.proofs.Common.{◌≡◌, ◌≢◌, ◌⊎◌, inl, inr, ⊎_elim, ℕ, ℤ, ◌<◌, ◌≤◌, ◌+◌, List, [], ◌∷◌, ◌++◌, map, filter, length, Bool, true, false, not, refl, sym, ap, ◌∙◌, subst, arith, cond, nat_eq, eq-eqb, eqb-true, MatchBool}
+use Rattle.std.proofs.Common.{◌≡◌, ◌⊎◌, inl, inr, ⊎_elim, ℕ, ◌<◌, ◌≤◌, ◌+◌, List, [], ◌∷◌, ◌++◌, map, filter, length, Bool, true, false, not, refl, sym, ap, ◌∙◌, subst, arith, cond, nat_eq, eq-eqb, eqb-true, MatchBool}
 use Rattle.std.proofs.lemmas.Bool.{false≢true, eqb-false}
 use Rattle.std.proofs.lemmas.List.Elements.{All-contains_itself, recursion_from_All}
-use Rattle.std.specs.Prelude.{Option, Some, None, Contains, is_some, option_map, reverse, unwrap_or, ◌&&◌, if◌then◌else◌}
+use Rattle.std.specs.Prelude.{Option, Some, None, Contains, option_map, reverse, unwrap_or, ◌&&◌, if◌then◌else◌}
 use Rattle.std.specs.List.{AllByRecursion}
 use Rattle.cl_base.specs.declared.headers.Read.{Read}
 use Rattle.cl_headers.specs.Headers.{Headers}
@@ -17,13 +17,12 @@ use Rattle.cl_core.specs.declared.core_state.Core.{Core}
 use Rattle.cl_core.specs.declared.core_state.Awaited.{Awaited}
 use Rattle.cl_core.specs.declared.event.Event.{Event}
 use Rattle.cl_core.specs.declared.event.Event.TheVariants as event
-use Rattle.cl_core.specs.declared.event.Effect.{Effect}
 use Rattle.cl_core.specs.declared.waiting.Waiting.{Waiting}
 use Rattle.cl_core.specs.Waiting.{number_of}
 use Rattle.cl_core.specs.Deciding.{left_by, started_by}
-use Rattle.cl_core.specs.Steps.{Takes, Completes, StartsAgain, Awaits, Needs, Loads, IsStale, IsLost, Steps, StepsOn, again, with_again, begun_again, left_after, hears, is_awaited, awaited_message}
+use Rattle.cl_core.specs.Steps.{Takes, Completes, StartsAgain, Awaits, Needs, Loads, IsStale, IsLost, Steps, StepsOn, again, with_again, left_after, hears, is_awaited, awaited_message}
 use Rattle.cl_core.specs.Standing.{IsIdle, StandsFor, awaits_read, jobs_of, loads_of, journal_of}
-use Rattle.cl_core.specs.Runs.{Put, TakesPut, Runs}
+use Rattle.cl_core.specs.Runs.{Put, Runs}
 use Rattle.cl_core.specs.Jobs.{IsOut, IsEndOf, HasOneOut, LedToRead, EachHasOneOut}
 use Rattle.cl_core.proofs.Asking.{all_left}
 use Rattle.cl_core.proofs.Waits.{one_of}
@@ -189,9 +188,11 @@ again_by : (b : Bool) (put : Put) (past : List Put) (n m number mark : ℕ) (hea
 again_by true put past n m number mark headers job w is started number_is its others lt =
     let mine = its is in
     let one : jobs_of put.effects ≡ again number mark headers w.job ∷ [] = started ∙ ap (λ (j : Job). again number mark headers j ∷ []) (sym mine.0) in (
-      (inl (here_in (jobs_of put.effects) (again number mark headers w.job) one),
-      λ other same out. ⊎_elim (λ h. the_one_in (jobs_of put.effects) (again number mark headers w.job) other one h)
-          (λ q. absurd (mine.1 other (same ∙ ap (λ (j : Job). j.message) mine.0 ∙ number_is) q.0 q.1)) out),
+      (
+        inl (here_in (jobs_of put.effects) (again number mark headers w.job) one),
+        λ other same out. ⊎_elim (λ h. the_one_in (jobs_of put.effects) (again number mark headers w.job) other one h)
+            (λ q. absurd (mine.1 other (same ∙ ap (λ (j : Job). j.message) mine.0 ∙ number_is) q.0 q.1)) out,
+      ),
       lt,
     )
 again_by false put past n m number mark headers job w is started number_is its others lt =
@@ -233,8 +234,11 @@ need_holds put past old new job path holds none taken heard c ends ended = ⊎_e
     subst (Holds (put ∷ past)) (sym a.new_is) (record {
       below = λ other out. ⊎_elim (λ h. absurd (none_in (jobs_of put.effects) other quiet h)) (λ q. holds.below other q.0) out;
       each = weaker (Free past old.messages) (Works (put ∷ past) old.messages (Some (record { message = job.message; path = path }))) old.pending
-          (λ w f. (await_by (nat_eq w.job.message job.message) put past w job refl quiet
-          (λ e other same out spares. gone other (same ∙ eqb-true w.job.message job.message e) out spares) (λ e. kept_only put past w.job f.0 (apart w e) (λ other same h. none_in (jobs_of put.effects) other quiet h)), f.1))
+          (λ w f. (
+            await_by (nat_eq w.job.message job.message) put past w job refl quiet
+                (λ e other same out spares. gone other (same ∙ eqb-true w.job.message job.message e) out spares) (λ e. kept_only put past w.job f.0 (apart w e) (λ other same h. none_in (jobs_of put.effects) other quiet h)),
+            f.1,
+          ))
           free;
       led = λ b some. inl (
         (λ e. let bad : path ∷ [] ≡ [] = sym (ap loads_of a.effects_are) ∙ e in cc),
@@ -246,6 +250,7 @@ need_holds put past old new job path holds none taken heard c ends ended = ⊎_e
   where
     message_of : (b x : Awaited) → ◌≡◌ {A = Option Awaited} (Some x) (Some b) → x.message ≡ b.message
     message_of b x e = ap (λ (o : Option Awaited). elim o [ None ↦ x.message | Some y ↦ y.message ]) e
+
     await_by : (b : Bool) (put : Put) (past : List Put) (w : Waiting) (job : Job) → nat_eq w.job.message job.message ≡ b → jobs_of put.effects ≡ []
         → (nat_eq w.job.message job.message ≡ true → (other : Job) → other.message ≡ w.job.message → IsOut past other → Spares put other → ⊥)
         → (nat_eq w.job.message job.message ≡ false → IsOnly (put ∷ past) w.job)

@@ -1,15 +1,13 @@
 -- What each step keeps.
-use Rattle.std.proofs.Common.{◌≡◌, ◌⊎◌, ℕ, List, [], ◌∷◌, ◌++◌, length, map, Bool, true, false, MatchBool, refl, sym, ap, ◌∙◌, subst}
-use Rattle.std.specs.Prelude.{Option, Some, None, ◌&&◌, not, option_map, unwrap_or, slice_get}
+use Rattle.std.proofs.Common.{◌≡◌, ℕ, List, length, Bool, true, false, MatchBool, refl, sym, ap}
+use Rattle.std.specs.Prelude.{Option, Some, None, ◌&&◌, not, option_map, unwrap_or}
 use Rattle.std.specs.Str.{bytes_eq}
 use Rattle.std.proofs.lemmas.Bool.{false≢true}
 use Rattle.cl_base.specs.declared.headers.Read.{Read}
-use Rattle.cl_query.specs.AnswerOf.{AnswerOf, NeedsOf}
-use Rattle.cl_rpc.specs.declared.call.Parsed.{Parsed}
 use Rattle.cl_rpc.specs.declared.out.How.TheVariants as how
 use Rattle.cl_rpc.specs.declared.out.Out.TheVariants as out
 use Rattle.cl_rpc.specs.Classes.{class_of}
-use Rattle.cl_history.specs.Given.{Given, said}
+use Rattle.cl_history.specs.Given.{Given}
 use Rattle.cl_history.specs.Refusals.{out_of_memory}
 use Rattle.cl_core.specs.declared.core_state.Core.{Core}
 use Rattle.cl_core.specs.declared.core_state.Awaited.{Awaited}

@@ -8,12 +8,11 @@ use Rattle.std.proofs.lemmas.List.{length-reverse}
 use Rattle.cl_base.specs.declared.headers.Known.{Known}
 use Rattle.cl_base.specs.declared.headers.Known.TheVariants as known
 use Rattle.cl_headers.specs.Headers.{known_at}
-use Rattle.cl_rpc.specs.declared.id.Id.{Id}
-use Rattle.cl_rpc.specs.Classes.{Class, initialises, shuts_down, queries, unknown, bad_params, invalid, opens, changes, closes, cancels, watched, exits, dropped}
+use Rattle.cl_rpc.specs.Classes.{Class, initialises, shuts_down, opens, changes, closes, watched}
 use Rattle.cl_history.specs.declared.entry.Entry.{Entry}
 use Rattle.cl_history.specs.declared.entry.Entry.TheVariants as entry
 use Rattle.cl_history.specs.Given.{Given, said, received, loaded}
-use Rattle.cl_history.specs.History.{is_initialised, is_initialising, is_shut_down, is_shutting_down, is_pending, text_at, text_after, version_at, version_after, pending}
+use Rattle.cl_history.specs.History.{is_initialised, is_initialising, is_shut_down, is_shutting_down, is_pending, text_at, text_after, version_at, version_after}
 use Rattle.cl_history.specs.Headers.{changes_header, last_read, text_or, headers_at}
 use Rattle.cl_history.specs.Legal.{owed}
 use Rattle.cl_history.specs.Accepted.{is_shutdown}
@@ -23,9 +22,9 @@ use Rattle.cl_core.specs.declared.core_state.Awaited.{Awaited}
 use Rattle.cl_core.specs.declared.event.Effect.{Effect}
 use Rattle.cl_core.specs.declared.waiting.Waiting.{Waiting}
 use Rattle.cl_core.specs.Waiting.{has_id, number_of}
-use Rattle.cl_core.specs.Deciding.{texts_of, versions_of, core_refusal, entry_of, known_after, replies_of}
-use Rattle.cl_core.specs.Steps.{Takes, is_accepted, pending_after}
-use Rattle.cl_core.specs.Standing.{Asks, AwaitsSo, StandsAt, StandsFor, past_of}
+use Rattle.cl_core.specs.Deciding.{texts_of, versions_of, entry_of, known_after, replies_of}
+use Rattle.cl_core.specs.Steps.{Takes, is_accepted}
+use Rattle.cl_core.specs.Standing.{Asks, StandsAt, StandsFor, past_of}
 use Rattle.cl_core.proofs.Onto.{onto, onto_past, unchanged}
 use Rattle.cl_core.proofs.Dues.{due_of, owed_first, waits_if_pending}
 use Rattle.cl_core.proofs.Following.{marks_of, replies_follow, none_left_due}

@@ -1,6 +1,6 @@
 -- The messages of those that wait were received.
-use Rattle.std.proofs.Common.{◌≡◌, ◌⊎◌, ⊎_elim, ℕ, ℤ, ◌<◌, ◌≤◌, ◌+◌, List, [], ◌∷◌, ◌++◌, length, Bool, true, false, refl, sym, ap, subst, arith, cond}
-use Rattle.std.specs.Prelude.{Option, Some, None, nat_eq, not, filter, map, if◌then◌else◌}
+use Rattle.std.proofs.Common.{◌≡◌, ⊎_elim, ℕ, ℤ, ◌<◌, ◌≤◌, ◌+◌, List, [], ◌∷◌, ◌++◌, length, Bool, true, false, refl, sym, subst, arith, cond}
+use Rattle.std.specs.Prelude.{Option, Some, None, nat_eq, not, filter, if◌then◌else◌}
 use Rattle.std.specs.List.{AllByRecursion}
 use Rattle.cl_base.specs.declared.query.Query.{Query}
 use Rattle.cl_headers.specs.Headers.{Headers}
@@ -16,7 +16,6 @@ use Rattle.cl_core.specs.declared.event.Event.{Event}
 use Rattle.cl_core.specs.declared.event.Event.TheVariants as event
 use Rattle.cl_core.specs.declared.event.Effect.{Effect}
 use Rattle.cl_core.specs.declared.waiting.Waiting.{Waiting}
-use Rattle.cl_core.specs.Waiting.{number_of}
 use Rattle.cl_core.specs.Deciding.{waiting_for, started_if, started_by, core_refusal, left_by}
 use Rattle.cl_core.specs.Steps.{Steps, StepsOn, Takes, Completes, StartsAgain, Awaits, again, begun_again, hears}
 use Rattle.cl_core.specs.Numbered.{IsNumbered}

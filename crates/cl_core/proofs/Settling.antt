@@ -1,5 +1,5 @@
 -- In a session that does each job before it takes the next message, none is pending where a message is received.
-use Rattle.std.proofs.Common.{◌≡◌, ◌⊎◌, ⊎_elim, ℕ, List, [], ◌∷◌, ◌++◌, map, length, sym, ap, ◌∙◌, subst, Bool}
+use Rattle.std.proofs.Common.{◌≡◌, ⊎_elim, ℕ, List, [], ◌∷◌, map, sym, ap, ◌∙◌, subst}
 use Rattle.cl_rpc.specs.declared.out.Reply.{Reply}
 use Rattle.cl_rpc.specs.declared.out.How.{How}
 use Rattle.cl_rpc.specs.declared.out.Out.{Out}
@@ -14,7 +14,6 @@ use Rattle.cl_core.specs.declared.core_state.Core.{Core}
 use Rattle.cl_core.specs.declared.event.Event.{Event}
 use Rattle.cl_core.specs.declared.event.Event.TheVariants as event
 use Rattle.cl_core.specs.declared.event.Effect.{Effect}
-use Rattle.cl_core.specs.declared.waiting.Waiting.{Waiting}
 use Rattle.cl_core.specs.Waiting.{number_of}
 use Rattle.cl_core.specs.Deciding.{entry_of, replies_of}
 use Rattle.cl_core.specs.Steps.{Takes, Completes, StartsAgain, Awaits, StepsOn, Steps, hears}

@@ -1,6 +1,6 @@
 -- Each job of a run is over its document's text and the headers at its mark, which is the journal's length.
-use Rattle.std.proofs.Common.{◌≡◌, ◌⊎◌, ⊎_elim, ℕ, ℤ, ◌+◌, ◌<◌, List, [], ◌∷◌, ◌++◌, map, length, reverse, Bool, true, false, refl, sym, ap, ◌∙◌, subst, arith, append-nil, append_assoc, eq-eqb, nat_eq, MatchBool}
-use Rattle.std.specs.Prelude.{Contains, Option, Some, None, is_some, if◌then◌else◌}
+use Rattle.std.proofs.Common.{◌≡◌, ◌⊎◌, ⊎_elim, ℕ, ℤ, ◌+◌, List, [], ◌∷◌, ◌++◌, map, length, Bool, true, false, refl, sym, ap, ◌∙◌, subst, arith, append_assoc, eq-eqb, MatchBool}
+use Rattle.std.specs.Prelude.{Contains, Option, Some, None}
 use Rattle.std.specs.List.{AllByRecursion}
 use Rattle.std.proofs.lemmas.List.{length-append, length-reverse, length-map}
 use Rattle.std.proofs.lemmas.List.Elements.{Contains-append_right}
@@ -26,7 +26,7 @@ use Rattle.cl_core.specs.declared.event.Effect.{Effect}
 use Rattle.cl_core.specs.declared.waiting.Waiting.{Waiting}
 use Rattle.cl_core.specs.Waiting.{number_of}
 use Rattle.cl_core.specs.Deciding.{core_refusal, entry_of, left_by, replies_of, replies_by, started_by, started_if, waiting_for}
-use Rattle.cl_core.specs.Steps.{Takes, Completes, Stops, StartsAgain, Awaits, Needs, Loads, IsStale, IsLost, Steps, StepsOn, again, with_again, begun_again, awaited_message, first_ending, hears, is_nil, left_after, pending_after, status_of}
+use Rattle.cl_core.specs.Steps.{Takes, Completes, Stops, StartsAgain, Awaits, Needs, Loads, IsStale, IsLost, Steps, StepsOn, again, with_again, begun_again, awaited_message, first_ending, hears, is_nil, left_after, status_of}
 use Rattle.cl_core.specs.Standing.{Asks, StandsFor, jobs_of, journal_of, past_of}
 use Rattle.cl_core.specs.Runs.{Put, TakesPut, Runs}
 use Rattle.cl_core.specs.Jobs.{IsStarted, AllStarted, AreNumberedFrom, jobs_so_far}
@@ -47,18 +47,18 @@ record IsOfNew (new : Core) (job : Job) : Type 0 where
 is_started : (given : Given) (new : Core) (job : Job) → StandsFor given new → IsOfNew new job → IsStarted given new.journal job
 is_started given new job s n =
     subst (IsStarted given new.journal) n.its_job (
-      let a : Asks given (past_of new) n.waiting = one_of (Asks given (past_of new)) new.pending n.waiting s.asks n.waits in
-      let mark : n.waiting.job.mark ≡ length (past_of new) = ap (λ (j : Job). j.mark) n.its_job ∙ n.marked ∙ sym (length-reverse new.journal) in
-      record {
-        works = subst (λ (ns : List ℕ). Contains ns n.waiting.job.message) s.waiting (contains_as number_of new.pending n.waiting n.waits);
-        id = n.waiting.id;
-        asked = a.said_so;
-        over = a.over;
-        at_version = a.at_version;
-        config = a.config;
-        marked = ap (λ (j : Job). j.mark) n.its_job ∙ n.marked;
-        headers = subst (λ (some : List Entry). AreHeadersAt given some n.waiting.job.headers) (ap (past_at (past_of new)) mark ∙ past_whole (past_of new)) a.headers;
-      })
+    let a : Asks given (past_of new) n.waiting = one_of (Asks given (past_of new)) new.pending n.waiting s.asks n.waits in
+    let mark : n.waiting.job.mark ≡ length (past_of new) = ap (λ (j : Job). j.mark) n.its_job ∙ n.marked ∙ sym (length-reverse new.journal) in
+    record {
+      works = subst (λ (ns : List ℕ). Contains ns n.waiting.job.message) s.waiting (contains_as number_of new.pending n.waiting n.waits);
+      id = n.waiting.id;
+      asked = a.said_so;
+      over = a.over;
+      at_version = a.at_version;
+      config = a.config;
+      marked = ap (λ (j : Job). j.mark) n.its_job ∙ n.marked;
+      headers = subst (λ (some : List Entry). AreHeadersAt given some n.waiting.job.headers) (ap (past_at (past_of new)) mark ∙ past_whole (past_of new)) a.headers;
+    })
 
 each_started : (given : Given) (new : Core) (jobs : List Job) → StandsFor given new → AllByRecursion (IsOfNew new) jobs → AllByRecursion (IsStarted given new.journal) jobs
 each_started given new [] s all = tt
@@ -173,9 +173,11 @@ put_new given old new put takes =
 pub all_started : (given : Given) (puts : List Put) (fresh core : Core) → StandsFor given fresh → journal_of fresh ≡ [] → Runs given fresh puts core → AllStarted given puts
 all_started given [] fresh core stands none run = tt
 all_started given (put ∷ past) fresh core stands none (before, runs, takes) =
-    let goes = goes_run given (put ∷ past) fresh core (starts given fresh stands none) (before, runs, takes) in
-    (subst (λ (j : List Entry). AllByRecursion (IsStarted given j) (jobs_of put.effects)) (sym takes.told)
-    (each_started given core (jobs_of put.effects) goes.0 (put_new given before core put takes)), all_started given past fresh before stands none runs)
+    let goes = goes_run given (put ∷ past) fresh core (starts given fresh stands none) (before, runs, takes) in (
+      subst (λ (j : List Entry). AllByRecursion (IsStarted given j) (jobs_of put.effects)) (sym takes.told)
+          (each_started given core (jobs_of put.effects) goes.0 (put_new given before core put takes)),
+      all_started given past fresh before stands none runs,
+    )
 
 -- ---- the numbers of the jobs
 

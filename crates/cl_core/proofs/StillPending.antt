@@ -16,7 +16,7 @@ use Rattle.cl_rpc.specs.Classes.{Class, initialises, shuts_down, queries, unknow
 use Rattle.cl_history.specs.declared.entry.Entry.{Entry}
 use Rattle.cl_history.specs.declared.entry.Entry.TheVariants as entry
 use Rattle.cl_history.specs.Given.{Given, said, received}
-use Rattle.cl_history.specs.Refusals.{is_open, document_of}
+use Rattle.cl_history.specs.Refusals.{is_open}
 use Rattle.cl_history.specs.History.{End, is_meant, is_query, pending, without}
 use Rattle.cl_history.specs.Legal.{how_ended}
 use Rattle.cl_history.proofs.Accepting.{open_if_accepted}
@@ -180,6 +180,7 @@ after_message given core k stands =
   where
     new : IsNew core
     new = not_waiting given (past_of core) core.messages stands.count core.pending stands.asks
+
     by_class : (k : Class) → map number_of (pending_after core k) ≡ without_all (map message_of (replies_of core k)) (map number_of core.pending ++ (if is_query k then core.messages ∷ [] else []))
     by_class (initialises i) = after_initialises core (length core.journal + 1) (core_refusal core (initialises i)) i new
     by_class (shuts_down i) = after_shuts_down core (length core.journal + 1) (core_refusal core (shuts_down i)) i new

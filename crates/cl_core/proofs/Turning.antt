@@ -1,6 +1,6 @@
 -- A session that does each job before it takes the next message.
-use Rattle.std.proofs.Common.{◌≡◌, ◌⊎◌, inl, inr, ⊎_elim, ℕ, ℤ, ◌+◌, List, [], ◌∷◌, ◌++◌, length, map, Bool, true, false, refl, sym, ap, ◌∙◌, subst, arith, append-nil, nat_eq, eq-eqb, zero, suc}
-use Rattle.std.specs.Prelude.{Contains, Option, Some, None, is_some, if◌then◌else◌, ◌&&◌, ◌||◌, not, option_map, unwrap_or}
+use Rattle.std.proofs.Common.{◌≡◌, ◌⊎◌, inl, inr, ⊎_elim, ℕ, ℤ, ◌+◌, List, [], ◌∷◌, ◌++◌, length, map, Bool, true, false, refl, sym, ap, ◌∙◌, subst, arith, append-nil, eq-eqb, zero, suc}
+use Rattle.std.specs.Prelude.{Contains, Option, Some, None, if◌then◌else◌, ◌&&◌, ◌||◌, option_map, unwrap_or}
 use Rattle.std.specs.Bool.{MatchBool}
 use Rattle.std.specs.Str.{bytes_eq}
 use Rattle.std.proofs.lemmas.Bool.{false≢true}
@@ -29,8 +29,8 @@ use Rattle.cl_core.specs.declared.event.Ending.{Ending}
 use Rattle.cl_core.specs.declared.event.Effect.{Effect}
 use Rattle.cl_core.specs.declared.event.Effect.TheVariants as effect
 use Rattle.cl_core.specs.declared.waiting.Waiting.{Waiting}
-use Rattle.cl_core.specs.Deciding.{core_refusal, ends_by, left_by, others_than, replies_of, started_by, started_if, waiting_for}
-use Rattle.cl_core.specs.Steps.{Takes, Completes, Stops, StartsAgain, Awaits, Needs, Loads, IsStale, IsLost, Steps, StepsOn, hears, is_awaited, awaited_message, again, begun_again, start_jobs, finish, finish_if, finishes, is_nil, is_accepted, is_exit, first_ending, status_of, ending_after, left_after, pending_after}
+use Rattle.cl_core.specs.Deciding.{core_refusal, ends_by, others_than, replies_of, started_by, started_if, waiting_for}
+use Rattle.cl_core.specs.Steps.{Takes, Completes, Stops, StartsAgain, Awaits, Needs, Loads, IsStale, IsLost, Steps, StepsOn, hears, awaited_message, again, begun_again, start_jobs, finish, finish_if, finishes, is_nil, is_accepted, is_exit, first_ending, status_of, ending_after, left_after, pending_after}
 use Rattle.cl_core.specs.Standing.{jobs_of, loads_of, finish_of, IsIdle, WorksOn, AwaitsRead, TakesTurn, EndsTurn, Restarts, ReadsFirst, EndsSession, Turns, messages_taken, reads_taken}
 use Rattle.cl_core.proofs.JobStands.{by_known}
 

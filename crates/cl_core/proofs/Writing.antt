@@ -1,6 +1,5 @@
 -- What a step writes.
-use Rattle.std.proofs.Common.{◌≡◌, ◌⊎◌, ⊎_elim, ℕ, ℤ, ◌+◌, List, [], ◌∷◌, ◌++◌, length, map, filter, reverse, refl, sym, ap, ◌∙◌, subst, append-nil, append_assoc, eq-eqb, nat_eq, Some, None, Option, true, false, Bool}
-use Rattle.std.specs.Prelude.{Contains, if◌then◌else◌}
+use Rattle.std.proofs.Common.{◌≡◌, ◌⊎◌, ⊎_elim, ℕ, ℤ, ◌+◌, List, [], ◌∷◌, ◌++◌, length, map, refl, sym, ap, ◌∙◌, subst, append-nil, append_assoc, eq-eqb, Some, None, Option, true, false, Bool}
 use Rattle.std.specs.List.{AllByRecursion}
 use Rattle.cl_base.specs.declared.answer.Answer.{Answer}
 use Rattle.cl_base.specs.declared.config.Settings.{Settings}
@@ -12,7 +11,7 @@ use Rattle.cl_rpc.specs.declared.out.Out.{Out}
 use Rattle.cl_rpc.specs.declared.out.Out.TheVariants as out
 use Rattle.cl_rpc.specs.declared.out.Reply.{Reply}
 use Rattle.cl_rpc.specs.Replies.{reply_frame}
-use Rattle.cl_rpc.specs.Classes.{Class, initialises, shuts_down, queries, unknown, bad_params, invalid, opens, changes, closes, cancels, watched, exits, dropped}
+use Rattle.cl_rpc.specs.Classes.{Class, initialises, shuts_down, cancels}
 use Rattle.cl_query.specs.declared.job.Job.{Job}
 use Rattle.cl_query.specs.AnswerOf.{AnswerOf}
 use Rattle.cl_history.specs.declared.entry.Entry.{Entry}
@@ -28,7 +27,7 @@ use Rattle.cl_core.specs.declared.event.Effect.{Effect}
 use Rattle.cl_core.specs.declared.event.Effect.TheVariants as effect
 use Rattle.cl_core.specs.declared.event.Ending.{Ending}
 use Rattle.cl_core.specs.declared.waiting.Waiting.{Waiting}
-use Rattle.cl_core.specs.Waiting.{number_of, class_of_waiting}
+use Rattle.cl_core.specs.Waiting.{class_of_waiting}
 use Rattle.cl_core.specs.Deciding.{code_of, core_refusal, ended, ends_by, entry_of, meant_by, replies_by, replies_if_accepted, replies_of, reply_by, started_by}
 use Rattle.cl_core.specs.Steps.{Takes, Replies, Completes, Stops, StartsAgain, Awaits, Needs, Loads, IsStale, IsLost, start_jobs, finish, finish_if, is_nil, ending_after, pending_after, left_after, first_ending, status_of}
 use Rattle.cl_core.specs.Standing.{Asks, StandsFor, WritesOn, frames_of, past_of}

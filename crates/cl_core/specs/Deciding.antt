@@ -1,5 +1,5 @@
 -- What a core decides of a message, by its own facts.
-use Rattle.std.specs.Prelude.{◌≡◌, ℕ, ℤ, ◌+◌, ◌&&◌, ◌||◌, List, [], ◌∷◌, ◌++◌, length, filter, Bool, true, false, not, if◌then◌else◌, Option, Some, None, option_map, is_some}
+use Rattle.std.specs.Prelude.{ℕ, ℤ, ◌+◌, ◌&&◌, List, [], ◌∷◌, length, filter, Bool, not, if◌then◌else◌, Option, Some, None, option_map}
 use Rattle.std.specs.List.{list_any}
 use Rattle.std.specs.Str.{bytes_eq}
 use Rattle.cl_base.specs.declared.headers.Known.{Known}
@@ -14,7 +14,7 @@ use Rattle.cl_rpc.specs.declared.out.How.TheVariants as how
 use Rattle.cl_rpc.specs.declared.out.Out.{Out}
 use Rattle.cl_rpc.specs.declared.out.Out.TheVariants as out
 use Rattle.cl_rpc.specs.declared.out.Reply.{Reply}
-use Rattle.cl_rpc.specs.Classes.{Class, initialises, shuts_down, queries, unknown, bad_params, invalid, opens, changes, closes, cancels, watched, exits}
+use Rattle.cl_rpc.specs.Classes.{Class, initialises, shuts_down, queries, unknown, bad_params, invalid, opens, changes, closes, watched}
 use Rattle.cl_history.specs.declared.entry.Entry.{Entry}
 use Rattle.cl_history.specs.declared.entry.Entry.TheVariants as entry
 use Rattle.cl_history.specs.Refusals.{id_of, refusal_of, document_of, is_open, request_cancelled, content_modified, out_of_memory}

@@ -1,12 +1,11 @@
 -- A decision, and what it stands for.
-use Rattle.std.specs.Prelude.{◌≡◌, ℕ, ℤ, ◌+◌, ◌&&◌, ◌||◌, List, [], ◌∷◌, ◌++◌, length, map, Bool, if◌then◌else◌, Option, Some, None, is_some}
-use Rattle.cl_headers.specs.Headers.{Headers, known_at}
+use Rattle.std.specs.Prelude.{◌≡◌, ℕ, ℤ, ◌+◌, ◌&&◌, ◌||◌, List, [], ◌∷◌, ◌++◌, length, map, Option, Some, None, is_some}
+use Rattle.cl_headers.specs.Headers.{known_at}
 use Rattle.cl_store.specs.declared.docs.Docs.{Docs}
 use Rattle.cl_store.specs.Docs.{Puts}
 use Rattle.cl_base.specs.declared.query.Query.{Query}
 use Rattle.cl_rpc.specs.declared.id.Id.{Id}
 use Rattle.cl_rpc.specs.Classes.{Class, queries}
-use Rattle.cl_history.specs.declared.entry.Entry.{Entry}
 use Rattle.cl_history.specs.declared.entry.Entry.TheVariants as entry
 use Rattle.cl_history.specs.History.{End, by_id, on_document, is_initialising, text_after, version_after}
 use Rattle.cl_history.specs.Accepted.{is_shutdown}

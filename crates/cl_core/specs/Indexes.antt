@@ -23,7 +23,6 @@ message_by ids (id.Text text) = get_by (λ k. slice_cmp nat_cmp text k.items) id
 abbrev pub messages_on : Documents → List ℕ → List ℕ
 messages_on documents path = unwrap_or (option_map (λ (s : BTreeSet ℕ). s.keys) (get (slice_cmp nat_cmp) documents.groups path)) []
 
-
 -- each request that waits stands at its message's number, in order, and the indexes name just those that wait
 pub record IsIndexed (waiting : BTreeMap ℕ Waiting) (ids : Ids) (documents : Documents) : Type 0 where
   pub ordered : IsOrdered nat_cmp waiting

@@ -1,5 +1,5 @@
 -- The jobs of a run: what each is over, and which are out.
-use Rattle.std.specs.Prelude.{◌≡◌, ◌≢◌, ◌⊎◌, ℕ, ◌+◌, List, [], ◌∷◌, ◌++◌, length, reverse, true, Some, None, Option, Contains}
+use Rattle.std.specs.Prelude.{◌≡◌, ◌≢◌, ◌⊎◌, ℕ, ◌+◌, List, [], ◌∷◌, ◌++◌, length, reverse, true, Some, Contains}
 use Rattle.std.specs.List.{AllByRecursion}
 use Rattle.cl_query.specs.declared.job.Job.{Job}
 use Rattle.cl_rpc.specs.declared.id.Id.{Id}

@@ -1,19 +1,17 @@
 -- What a core stands for, and the words in which those above speak of a core.
-use Rattle.std.specs.Prelude.{◌≡◌, ◌⊎◌, ℕ, ℤ, ◌+◌, ◌<◌, ◌≤◌, List, [], ◌∷◌, ◌++◌, length, reverse, map, filter, Bool, true, false, not, nat_eq, if◌then◌else◌, Option, Some, None, option_map, is_some, slice_get, Contains, IsTrue}
+use Rattle.std.specs.Prelude.{◌≡◌, ◌⊎◌, ℕ, ◌+◌, ◌<◌, List, [], ◌∷◌, ◌++◌, reverse, map, filter, Bool, true, false, not, nat_eq, if◌then◌else◌, Option, Some, None, option_map, slice_get, Contains}
 use Rattle.std.specs.Bool.{MatchBool}
-use Rattle.std.specs.Option.{MatchOption}
 use Rattle.std.specs.List.{AllByRecursion}
-use Rattle.cl_headers.specs.Headers.{Headers, known_at}
-use Rattle.cl_rpc.specs.declared.call.Parsed.{Parsed}
-use Rattle.cl_rpc.specs.Classes.{Class, class_of}
+use Rattle.cl_headers.specs.Headers.{known_at}
+use Rattle.cl_rpc.specs.Classes.{class_of}
 use Rattle.cl_rpc.specs.Replies.{reply_frame}
 use Rattle.cl_query.specs.declared.job.Job.{Job}
 use Rattle.cl_query.specs.AnswerOf.{AnswerOf, NeedsOf}
 use Rattle.cl_history.specs.declared.entry.Entry.{Entry}
 use Rattle.cl_history.specs.Given.{Given, said, received, loaded}
 use Rattle.cl_history.specs.History.{is_initialised, is_shut_down, text_at, version_at, pending}
-use Rattle.cl_history.specs.Headers.{AreHeadersAt, headers_at, past_at}
-use Rattle.cl_history.specs.Legal.{AllFollow, IsLegal, IsMark, before, owed}
+use Rattle.cl_history.specs.Headers.{AreHeadersAt, past_at}
+use Rattle.cl_history.specs.Legal.{AllFollow, IsMark, before, owed}
 use Rattle.cl_history.specs.Written.{Writes}
 use Rattle.cl_core.specs.declared.core_state.Core.{Core}
 use Rattle.cl_core.specs.declared.core_state.Awaited.{Awaited}

@@ -4,12 +4,11 @@ use Rattle.std.specs.Bool.{MatchBool}
 use Rattle.std.specs.Str.{bytes_eq}
 use Rattle.cl_base.specs.declared.headers.Read.{Read}
 use Rattle.cl_headers.specs.Headers.{Headers, known_at}
-use Rattle.cl_rpc.specs.declared.call.Parsed.{Parsed}
 use Rattle.cl_rpc.specs.declared.out.How.{How}
 use Rattle.cl_rpc.specs.declared.out.How.TheVariants as how
 use Rattle.cl_rpc.specs.declared.out.Out.{Out}
 use Rattle.cl_rpc.specs.declared.out.Out.TheVariants as out
-use Rattle.cl_rpc.specs.Classes.{Class, initialises, shuts_down, exits, class_of}
+use Rattle.cl_rpc.specs.Classes.{Class, exits, class_of}
 use Rattle.cl_query.specs.declared.job.Job.{Job}
 use Rattle.cl_history.specs.declared.entry.Entry.{Entry}
 use Rattle.cl_history.specs.declared.entry.Entry.TheVariants as entry
@@ -26,7 +25,6 @@ use Rattle.cl_core.specs.declared.event.Ending.TheVariants as ending
 use Rattle.cl_core.specs.declared.event.Effect.{Effect}
 use Rattle.cl_core.specs.declared.event.Effect.TheVariants as effect
 use Rattle.cl_core.specs.declared.waiting.Waiting.{Waiting}
-use Rattle.cl_core.specs.Waiting.{number_of}
 use Rattle.cl_core.specs.Deciding.{texts_of, versions_of, core_refusal, entry_of, known_after, left_by, reply_by, replies_of, started_by}
 
 -- the entries of the replies among the effects

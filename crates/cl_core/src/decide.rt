@@ -84,10 +84,7 @@ fn ending_after(core: &State, class: Class<'_>) -> Option<u8>
     ensures { result ≡ ending_after core.now (class_behind class.entry) }
 {
     match class {
-        Class::Exits => Some(first_ending(
-            core.ending,
-            if core.shut_down { 0 } else { 1 },
-        )),
+        Class::Exits => Some(first_ending(core.ending, if core.shut_down { 0 } else { 1 })),
         _ => core.ending,
     }
 }

@@ -88,7 +88,12 @@ fn without(alloc: Global, headers: HeaderMap, path: &Path) -> Mem<HeaderMap>
 }
 
 /// The headers where nothing is known of these paths, but for open documents.
-fn without_closed(alloc: Global, headers: HeaderMap, docs: &Docs, paths: &List<Path>) -> Mem<HeaderMap>
+fn without_closed(
+    alloc: Global,
+    headers: HeaderMap,
+    docs: &Docs,
+    paths: &List<Path>,
+) -> Mem<HeaderMap>
     ensures { IfOk result (λ after. (q : List ℕ) → known_at after q
         ≡ (if list_any (λ path. bytes_eq path q) paths.now && not (is_some (texts_of docs.now q)) then None else known_at headers q)) }
 {

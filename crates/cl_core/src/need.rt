@@ -48,7 +48,8 @@ fn start_again(alloc: Global, core: &mut State, job: Job) -> Mem<List<Effect>>
     let headers = core.headers.duplicate(alloc)?;
     let job = job_again(job, core.jobs, mark, headers.duplicate(alloc)?);
     let effects = start_of(alloc, job)?;
-    core.pending.begin_again(alloc, message, core.jobs, mark, &headers)?;
+    core.pending
+        .begin_again(alloc, message, core.jobs, mark, &headers)?;
     core.jobs = jobs;
     Ok(effects)
 }
@@ -66,7 +67,13 @@ fn await_read(alloc: Global, core: &mut State, message: u64, path: Path) -> Mem<
 }
 
 /// Takes a read that is awaited: the job that needs it starts again over what is known with it.
-pub fn loaded(alloc: Global, core: &mut State, message: u64, path: &Path, read: Read) -> Mem<List<Effect>>
+pub fn loaded(
+    alloc: Global,
+    core: &mut State,
+    message: u64,
+    path: &Path,
+    read: Read,
+) -> Mem<List<Effect>>
     ensures ok { IfOk result (λ effects. Loads core.old message path.now read core.new effects ⊎ IsLost core.old message core.new effects) }
     ensures err { OnErr result (core.new ≡ core.old) }
 {
@@ -87,7 +94,11 @@ pub fn loaded(alloc: Global, core: &mut State, message: u64, path: &Path, read: 
     let effects = start_of(alloc, job)?;
     let length = core.journal.len();
     core.journal.push(Entry::Load(core.loads))?;
-    if core.pending.begin_again(alloc, message, core.jobs, mark, &headers).is_err() {
+    if core
+        .pending
+        .begin_again(alloc, message, core.jobs, mark, &headers)
+        .is_err()
+    {
         core.journal.truncate(length);
         return Err(Memory);
     }

@@ -190,7 +190,14 @@ impl Pending {
 
     /// Begins the job of the request that this message made again, with this number and mark and over these headers, or
     /// changes nothing.
-    pub fn begin_again(&mut self, alloc: Global, message: u64, number: u64, mark: u64, headers: &HeaderMap) -> Mem<()>
+    pub fn begin_again(
+        &mut self,
+        alloc: Global,
+        message: u64,
+        number: u64,
+        mark: u64,
+        headers: &HeaderMap,
+    ) -> Mem<()>
         ensures ok { OnOk result (self.new ≡ begun_again message number mark headers.now self.old) }
         ensures err { OnErr result (self.new ≡ self.old) }
     {
@@ -213,7 +220,13 @@ impl Pending {
 }
 
 /// The request with its job begun again.
-fn begun(alloc: Global, waiting: &Waiting, number: u64, mark: u64, headers: &HeaderMap) -> Mem<Waiting>
+fn begun(
+    alloc: Global,
+    waiting: &Waiting,
+    number: u64,
+    mark: u64,
+    headers: &HeaderMap,
+) -> Mem<Waiting>
     ensures { IfOk result (λ after. after ≡ record waiting.now { job = again number mark headers.now waiting.now.job }) }
 {
     let id = waiting.id.duplicate(alloc)?;

@@ -59,14 +59,7 @@ fn advance(alloc: Global, core: &mut State, event: Event) -> Mem<List<Effect>>
         Event::Done(done) => {
             let Done { job, answer } = done;
             let mark = job.mark;
-            complete(
-                alloc,
-                core,
-                &job,
-                mark,
-                How::Answered,
-                Out::Answer(answer),
-            )
+            complete(alloc, core, &job, mark, How::Answered, Out::Answer(answer))
         }
         Event::Need(job) => need(alloc, core, job),
         Event::NoMemory(job) => {

@@ -16,7 +16,12 @@ use cl_rpc::{Class, Id};
 use std::alloc::Global;
 
 /// What a message of this refusal does to the documents, and the request that starts to wait by it.
-pub fn work_of<'a>(alloc: Global, core: &State, class: Class<'a>, refusal: Option<i32>) -> Mem<Work<'a>>
+pub fn work_of<'a>(
+    alloc: Global,
+    core: &State,
+    class: Class<'a>,
+    refusal: Option<i32>,
+) -> Mem<Work<'a>>
     requires { refusal ≡ core_refusal core.now (class_behind class) }
     ensures { IfOk result (λ work. IsWorkOf core.now (class_behind class.entry) work) }
 {
@@ -59,7 +64,13 @@ fn started<'a>(
 }
 
 /// The request that starts to wait, and its job over the document as it is.
-fn waiting_for(alloc: Global, core: &State, id: &Id, query: Query, path: &Path) -> Mem<Option<Waiting>>
+fn waiting_for(
+    alloc: Global,
+    core: &State,
+    id: &Id,
+    query: Query,
+    path: &Path,
+) -> Mem<Option<Waiting>>
     ensures { IfOk result (λ waiting. option_to_list waiting ≡ waiting_for core.now id.now query path.now (doc_at core.now.docs path.now)) }
 {
     let Some(doc) = core.docs.text_at(path) else {

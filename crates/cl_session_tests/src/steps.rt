@@ -67,12 +67,22 @@ fn cut(line: &str) -> (&str, &str) {
 fn known(alloc: Global, core: &Core, path: &str) -> Mem<String> {
     let headers = core.headers(alloc)?;
     let path = Path::new(alloc, path)?;
-    let text = match headers.get(&path) {
-        Some(Known::Found(text)) => str::from_utf8(text.bytes()).unwrap_or("?"),
-        Some(_) => "?",
-        None => "-",
-    };
+    let text = text_of(headers.get(&path));
     Ok(String::from_str(alloc, text)?)
+}
+
+fn text_of(known: Option<&Known>) -> &str {
+    match known {
+        Some(known) => found_in(known),
+        None => "-",
+    }
+}
+
+fn found_in(known: &Known) -> &str {
+    match known {
+        Known::Found(text) => str::from_utf8(text.bytes()).unwrap_or("?"),
+        _ => "?",
+    }
 }
 
 /// The event that is told by its word and the rest of its line.

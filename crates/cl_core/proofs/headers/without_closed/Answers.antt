@@ -12,9 +12,9 @@ loop-path-preserved c =
     take_more c.as_slice-path-items.result.now c.loop-path.path-index c.path-item.result c.loop-path-test.true ∙ ap (λ x. take c.loop-path.path-index c.as_slice-path-items.result.now ++ x ∷ []) (sym c.path-item.is) in
     elim c.if-is_none.branch [
       | then-is_none+in_ok-forget w ↦
-        let closed : is_some (texts_of c.args.docs.now c.path-item.result) ≡ false = search (rules, w.if-is_none.true) in
-        rw w.headers-is (forgotten c.loop-path.headers _ c.args.headers (texts_of c.args.docs.now) _ _ c.path-item.result more closed w.in_ok-forget.ensures.puts c.loop-path.invariant)
+          let closed : is_some (texts_of c.args.docs.now c.path-item.result) ≡ false = search (rules, w.if-is_none.true) in
+          rw w.headers-is (forgotten c.loop-path.headers _ c.args.headers (texts_of c.args.docs.now) _ _ c.path-item.result more closed w.in_ok-forget.ensures.puts c.loop-path.invariant)
       | else-is_none w ↦
-        let stands : is_some (texts_of c.args.docs.now c.path-item.result) ≡ true = search (rules, w.if-is_none.false) in
-        rw w.headers-is (stays c.loop-path.headers c.args.headers (texts_of c.args.docs.now) _ _ c.path-item.result more stands c.loop-path.invariant)
+          let stands : is_some (texts_of c.args.docs.now c.path-item.result) ≡ true = search (rules, w.if-is_none.false) in
+          rw w.headers-is (stays c.loop-path.headers c.args.headers (texts_of c.args.docs.now) _ _ c.path-item.result more stands c.loop-path.invariant)
     ]

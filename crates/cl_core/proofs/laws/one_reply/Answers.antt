@@ -1,7 +1,6 @@
-use Rattle.std.proofs.Common.{ℕ, List}
+use Rattle.std.proofs.Common.{List}
 use Rattle.cl_query.specs.AnswerOf.{NeedsOf}
 use Rattle.cl_history.proofs.Once.{are_once}
-use Rattle.cl_history.specs.Given.{Given}
 use Rattle.cl_core.specs.declared.core_state.Core.{Core}
 use Rattle.cl_core.specs.declared.event.Event.{Event}
 use Rattle.cl_core.specs.declared.event.Effect.{Effect}
@@ -11,7 +10,6 @@ use Rattle.cl_core.specs.Standing.{Turns}
 use Rattle.cl_core.proofs.Settling.{step_settles}
 use Rattle.cl_core.proofs.Turning.{step_turns}
 use Rattle.cl_core.proofs.Numbering.{step_numbered}
-use Rattle.cl_core.proofs.Kept.{none_awaited}
 use Rattle.cl_core.proofs.laws.one_reply.Goals as goal
 
 pub returns : goal.returns

@@ -1,11 +1,10 @@
-use Rattle.std.proofs.Common.{◌≡◌, ◌∙◌, ap, refl, inl, inr, rules, ◌∷◌, [], ◌++◌, filter, nat_eq, length, ◌+◌, if◌then◌else◌, sym}
+use Rattle.std.proofs.Common.{◌≡◌, ◌∙◌, ap, refl, inl, inr, rules, ◌∷◌, [], ◌++◌, filter, nat_eq, length, ◌+◌, if◌then◌else◌}
 use Rattle.std.specs.Prelude.{Some}
 use Rattle.std.specs.Str.{bytes_eq}
 use Rattle.cl_headers.specs.Headers.{Headers, known_at}
 use Rattle.cl_history.specs.declared.entry.Entry.TheVariants.{Load}
 use Rattle.cl_history.specs.Headers.{told}
-use Rattle.cl_core.specs.declared.event.Effect.TheVariants.{StartJob}
-use Rattle.cl_core.specs.Steps.{again, begun_again}
+use Rattle.cl_core.specs.Steps.{begun_again}
 use Rattle.cl_core.proofs.Indexed.{none_of, contains_one, number_one}
 use Rattle.cl_core.proofs.need.loaded.Goals as goal
 

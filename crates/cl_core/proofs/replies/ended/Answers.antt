@@ -2,8 +2,8 @@ use Rattle.std.proofs.Common.{◌≡◌, ◌∙◌, ap, map, filter, rules, subs
 use Rattle.cl_core.specs.declared.event.Effect.TheVariants.{Reply}
 use Rattle.cl_core.specs.declared.waiting.Waiting.{Waiting}
 use Rattle.cl_core.specs.Waiting.{is_meant}
-use Rattle.cl_core.specs.Deciding.{ended, meant_by}
-use Rattle.cl_core.specs.Decisions.{IsEnding, end_behind}
+use Rattle.cl_core.specs.Deciding.{ended}
+use Rattle.cl_core.specs.Decisions.{IsEnding}
 use Rattle.cl_core.proofs.Decided.{meant_which}
 use Rattle.cl_core.proofs.replies.ended.Goals as goal
 

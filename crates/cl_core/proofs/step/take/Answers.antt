@@ -1,4 +1,4 @@
-use Rattle.std.proofs.Common.{◌≡◌, ◌∙◌, rules, subst}
+use Rattle.std.proofs.Common.{subst}
 use Rattle.cl_rpc.specs.Classes.{Class, class_of}
 use Rattle.cl_core.specs.Decisions.{Decides}
 use Rattle.cl_core.proofs.Decided.{above_started, decided_takes}
