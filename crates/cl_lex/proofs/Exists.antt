@@ -163,12 +163,12 @@ module _ (cs : List ℕ) where
 
   -- ---- the next item
 
-  record Next (header : Bool) (from : ℕ) : Type 0 where
-    what : ItemKind
-    to : ℕ
-    some : from < to
-    within : to ≤ length cs
-    is : IsItem cs header what from to
+  pub record Next (header : Bool) (from : ℕ) : Type 0 where
+    pub what : ItemKind
+    pub to : ℕ
+    pub some : from < to
+    pub within : to ≤ length cs
+    pub is : IsItem cs header what from to
 
   -- an item that is no Other token is the longest
   as_item : (header : Bool) (k : ItemKind) (from to : ℕ) → IsLongest cs header k from to → IsItem cs header k from to
@@ -241,7 +241,7 @@ module _ (cs : List ℕ) where
       no_quote true n = absurd (n refl)
       no_quote false n = refl
 
-  next : (header : Bool) (from : ℕ) → from < length cs → Next header from
+  pub next : (header : Bool) (from : ℕ) → from < length cs → Next header from
   next header from within = go (greatest (Some header from) (dec_some header from) (suc (length cs)))
     where
       go : Greatest (Some header from) (suc (length cs)) ⊎ ((i : ℕ) → i < suc (length cs) → Some header from i → ⊥) → Next header from

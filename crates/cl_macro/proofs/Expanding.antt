@@ -1,5 +1,5 @@
 -- A run, token by token.
-use Rattle.std.proofs.Common.{◌≡◌, ℕ, zero, suc, ◌+◌, ◌-◌, ◌≤◌, ◌<◌, List, [], ◌∷◌, ◌++◌, length, drop, take, map, reverse, Option, Some, None, refl, sym, ap, subst, ◌∙◌, arith, append_assoc, length-drop}
+use Rattle.std.proofs.Common.{◌≡◌, ℕ, zero, suc, ◌+◌, ◌-◌, ◌≤◌, ◌<◌, List, [], ◌∷◌, ◌++◌, length, drop, take, map, reverse, refl, sym, ap, subst, ◌∙◌, arith, append_assoc, length-drop}
 use Rattle.cl_base.specs.declared.macros.Macro.{Macro}
 use Rattle.cl_macro.specs.Rules.{Rules}
 use Rattle.cl_macro.specs.declared.word.Word.{Word}
@@ -9,12 +9,9 @@ use Rattle.cl_base.specs.declared.token.Span.{Span}
 use Rattle.cl_macro.specs.Words.{looks}
 use Rattle.cl_macro.specs.Turns.{Turn, Stays, Invokes, Misfits, Open, turn, stay_notes}
 use Rattle.std.proofs.lemmas.Grind.{common_steps}
-use Rattle.cl_macro.specs.Replacing.{settled_word, Works, Each, done, stays, invokes, misfits, open_ended, replacements, Expands, end, whole, large, settled, span_of, all_told}
-use Rattle.std.proofs.Common.{Bor}
+use Rattle.cl_macro.specs.Replacing.{settled_word, Works, done, stays, invokes, misfits, open_ended, replacements, Expands, whole, large, settled, span_of, all_told}
 use Rattle.cl_macro.specs.declared.level.Level.{Level}
-use Rattle.cl_macro.specs.declared.turn.Doing.{Doing}
-use Rattle.cl_macro.specs.declared.turn.Doing.TheVariants as doing
-use Rattle.cl_macro.specs.Levels.{ahead, turned, Passes, Within}
+use Rattle.cl_macro.specs.Levels.{ahead, Passes, Within}
 use Rattle.cl_macro.proofs.Standing.{looks_zero, stay_zero, replacements_more, taken_length}
 
 -- what is invoked takes what it takes

@@ -1,18 +1,16 @@
 -- What is noted while a body is joined is no replacement.
-use Rattle.std.proofs.Common.{◌≡◌, ℕ, ◌+◌, Bool, true, false, List, [], ◌∷◌, ◌++◌, Option, Some, None, refl, sym, ap, subst, ◌∙◌, zero-add, arith}
+use Rattle.std.proofs.Common.{◌≡◌, ℕ, Bool, true, false, List, [], ◌∷◌, Option, Some, None, refl, sym, subst, ◌∙◌, zero-add}
 use Rattle.std.specs.Prelude.{if◌then◌else◌}
 use Rattle.cl_base.specs.declared.token.Kind.{Kind}
 use Rattle.cl_base.specs.declared.macros.Macro.{Macro}
-use Rattle.cl_macro.specs.declared.note.Note.{Note}
-use Rattle.cl_macro.specs.declared.note.Note.TheVariants as note
 use Rattle.cl_macro.specs.declared.word.Word.{Word}
 use Rattle.cl_macro.specs.declared.part.Part.{Part}
 use Rattle.cl_macro.specs.declared.part.Part.TheVariants as part
 use Rattle.cl_macro.specs.Rules.{Rules}
 use Rattle.cl_macro.specs.Replacing.{replacements}
-use Rattle.cl_macro.specs.Pasting.{parts_of, Joined, glue, joins, kept, put, unspaced, joined_body}
-use Rattle.cl_macro.specs.Made.{made_notes, whole_body, only, file_word, line_word, is_file, is_line}
-use Rattle.cl_macro.proofs.Joining.{glued_by, joins_due, joins_kept}
+use Rattle.cl_macro.specs.Pasting.{parts_of, Joined, glue, joins, unspaced}
+use Rattle.cl_macro.specs.Made.{made_notes, whole_body, is_file, is_line}
+use Rattle.cl_macro.proofs.Joining.{glued_by, joins_due}
 
 abbrev Zero : Joined → Type 0
 Zero j = replacements j.notes ≡ 0

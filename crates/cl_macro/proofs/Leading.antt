@@ -1,16 +1,16 @@
 -- The steps over the invocations in work.
-use Rattle.std.proofs.Common.{◌≡◌, ℕ, List, [], ◌∷◌, ◌++◌, length, drop, ◌-◌, Option, Some, None, refl, sym, ap, subst, ◌∙◌, append_assoc}
+use Rattle.std.proofs.Common.{◌≡◌, List, [], ◌∷◌, ◌++◌, length, drop, ◌-◌, refl, sym, ap, subst, ◌∙◌, append_assoc}
 use Rattle.cl_base.specs.declared.macros.Macro.{Macro}
 use Rattle.cl_macro.specs.Rules.{Rules}
 use Rattle.cl_macro.specs.declared.word.Word.{Word}
 use Rattle.cl_macro.specs.declared.note.Note.{Note}
-use Rattle.cl_macro.specs.Turns.{Turn, Invokes, turn, args_of, set_of, invoking}
-use Rattle.cl_macro.specs.Made.{made, made_notes}
-use Rattle.cl_macro.specs.Params.{asked, raws}
-use Rattle.cl_macro.specs.Replacing.{Works, Each, done, invokes, none, next}
+use Rattle.cl_macro.specs.Turns.{Invokes, turn, args_of, invoking}
+use Rattle.cl_macro.specs.Made.{made_notes}
+use Rattle.cl_macro.specs.Params.{raws}
+use Rattle.cl_macro.specs.Replacing.{Works, done, invokes, none, next}
 use Rattle.cl_macro.specs.Frames.{begun}
-use Rattle.cl_macro.specs.Walks.{Comes, Walks, Frame, Called, Inside, Outside, Goes, Between, with_done, with_waiting, made_of, notes_of, Later, Leads, working, between}
-use Rattle.cl_macro.proofs.Shapes.{Invoked, Nothing, Shape, shape, shape_at, Nexts, EachShape, each_shape}
+use Rattle.cl_macro.specs.Walks.{Walks, Frame, Called, Inside, Outside, Goes, with_done, with_waiting, made_of, notes_of, Leads, working, between}
+use Rattle.cl_macro.proofs.Shapes.{Invoked, Nothing, shape, shape_at, Nexts, each_shape}
 use Rattle.cl_macro.proofs.Walking.{append_nil}
 
 pub leads_none : (A : List Word → List Word → List Note → Type 0) → Leads A A []

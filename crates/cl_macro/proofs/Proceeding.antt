@@ -1,8 +1,6 @@
 -- The steps over the invocations in work, as the code keeps them.
-use Rattle.std.proofs.Common.{length-drop, ◌≡◌, ℕ, zero, suc, ◌+◌, ◌-◌, ◌≤◌, ◌<◌, List, [], ◌∷◌, ◌++◌, length, drop, take, map, reverse, ◌≢◌, Option, Some, None, refl, sym, ap, subst, ◌∙◌, arith, append_assoc}
+use Rattle.std.proofs.Common.{length-drop, ◌≡◌, ℕ, ◌+◌, ◌≤◌, ◌<◌, List, [], ◌∷◌, ◌++◌, length, drop, take, map, reverse, ◌≢◌, Option, Some, None, refl, sym, ap, subst, ◌∙◌, arith, append_assoc}
 use Rattle.std.proofs.lemmas.Grind.{common_steps}
-use Rattle.std.proofs.lemmas.List.{length-reverse}
-use Rattle.cl_base.specs.declared.macros.Macro.{Macro}
 use Rattle.cl_base.specs.declared.token.Span.{Span}
 use Rattle.cl_macro.specs.Rules.{Rules}
 use Rattle.cl_macro.specs.declared.word.Word.{Word}
@@ -11,13 +9,12 @@ use Rattle.cl_macro.specs.declared.level.Level.{Level}
 use Rattle.cl_macro.specs.declared.pending.Pending.{Pending}
 use Rattle.cl_macro.specs.declared.machine.Whole.{Whole}
 use Rattle.cl_macro.specs.declared.walk.Invoked.{Invoked}
-use Rattle.cl_macro.specs.Turns.{Invokes, turn, invoking, close_of, took, took_by}
+use Rattle.cl_macro.specs.Turns.{invoking, close_of, took, took_by}
 use Rattle.cl_macro.specs.Words.{place_of}
-use Rattle.cl_macro.specs.Made.{made, made_notes}
 use Rattle.cl_macro.specs.Replacing.{Works, replacements, done}
-use Rattle.cl_macro.specs.Levels.{ahead, work_of, Stood, Invoking, Ended, Passes}
-use Rattle.cl_macro.specs.Walks.{Frame, Leads, Later, working, between, with_done, with_waiting, made_of, notes_of, Outside, Goes}
-use Rattle.cl_macro.specs.Frames.{Closed, Short, Proceeds, Runs, Finds, Ends, Replaced, at_level, begun, begun_at, frame_of, frames, waits}
+use Rattle.cl_macro.specs.Levels.{ahead, Invoking, Ended}
+use Rattle.cl_macro.specs.Walks.{Frame, Leads, working, between, with_done, with_waiting, made_of, notes_of, Outside, Goes}
+use Rattle.cl_macro.specs.Frames.{Closed, Short, Proceeds, Runs, Finds, Ends, Replaced, at_level, begun_at, frame_of, frames}
 use Rattle.cl_macro.specs.Outermost.{Wholly, Reached}
 use Rattle.cl_macro.proofs.Walking.{append_nil}
 use Rattle.cl_macro.proofs.Leading.{leads_none, leads_then, leads_walks, leads_invokes, leads_ends, leads_next, leads_closes}

@@ -1,5 +1,5 @@
 -- The steps of a level.
-use Rattle.std.proofs.Common.{length-drop, ◌≡◌, ℕ, zero, suc, ◌+◌, ◌-◌, ◌≤◌, ◌<◌, Bool, true, false, List, [], ◌∷◌, ◌++◌, length, drop, take, reverse, Option, Some, None, refl, sym, ap, subst, ◌∙◌, arith, append_assoc, add_assoc, zero-add}
+use Rattle.std.proofs.Common.{length-drop, ◌≡◌, ℕ, zero, suc, ◌+◌, ◌-◌, ◌≤◌, Bool, true, false, List, [], ◌∷◌, ◌++◌, length, drop, take, reverse, Option, refl, sym, ap, subst, ◌∙◌, arith, append_assoc, add_assoc, zero-add}
 use Rattle.std.specs.Prelude.{if◌then◌else◌}
 use Rattle.std.proofs.lemmas.List.{length-reverse}
 use Rattle.std.proofs.lemmas.Grind.{common_steps}
@@ -10,7 +10,7 @@ use Rattle.cl_macro.specs.declared.note.Note.{Note}
 use Rattle.cl_macro.specs.declared.note.Note.TheVariants as note
 use Rattle.cl_macro.specs.declared.level.Level.{Level}
 use Rattle.cl_macro.specs.Words.{looks, all_look, place_of, is_ident}
-use Rattle.cl_macro.specs.Turns.{Turn, Stays, Invokes, Misfits, Open, turn, stay_notes}
+use Rattle.cl_macro.specs.Turns.{Turn, Stays, Misfits, Open, turn, stay_notes}
 use Rattle.cl_macro.specs.Replacing.{replacements, step}
 use Rattle.cl_macro.specs.Walks.{Walks}
 use Rattle.cl_macro.specs.Levels.{ahead, work_of, Passes, Stood}

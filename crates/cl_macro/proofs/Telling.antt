@@ -1,5 +1,5 @@
 -- A spelling is one token of one kind.
-use Rattle.std.proofs.Common.{◌≡◌, ℕ, false, List, length, Option, Some, None, refl, sym, ap, ◌∙◌}
+use Rattle.std.proofs.Common.{◌≡◌, ℕ, false, List, length, Option, Some, None, refl, ap}
 use Rattle.std.specs.Prelude.{MatchOption}
 use Rattle.cl_base.specs.declared.token.Kind.{Kind}
 use Rattle.cl_lex.specs.declared.item.ItemKind.TheVariants as item

@@ -1,5 +1,5 @@
 -- What tokens come to is one.
-use Rattle.std.proofs.Common.{◌≡◌, ℕ, ◌<◌, ◌≤◌, ◌+◌, List, [], ◌∷◌, ◌++◌, length, drop, ◌-◌, Option, Some, None, refl, sym, ap, subst, ◌∙◌, append_assoc, arith, ◌⊎◌, inl, inr}
+use Rattle.std.proofs.Common.{◌≡◌, ℕ, ◌<◌, ◌≤◌, ◌+◌, List, [], ◌∷◌, ◌++◌, length, drop, ◌-◌, refl, sym, ap, subst, ◌∙◌, arith, ◌⊎◌, inl, inr}
 use Rattle.cl_base.specs.declared.macros.Macro.{Macro}
 use Rattle.cl_macro.specs.Rules.{Rules}
 use Rattle.cl_macro.specs.declared.word.Word.{Word}
@@ -9,10 +9,9 @@ use Rattle.cl_base.specs.declared.token.Span.{Span}
 use Rattle.cl_macro.specs.Words.{looks}
 use Rattle.cl_macro.specs.Turns.{Turn, Stays, Invokes, Misfits, Open, turn, args_of, set_of, invoking, stay_notes}
 use Rattle.cl_macro.specs.Made.{made, made_notes}
-use Rattle.cl_macro.specs.Params.{asked, raws}
+use Rattle.cl_macro.specs.Params.{raws}
 use Rattle.cl_macro.specs.Replacing.{Works, Each, done, stays, invokes, misfits, open_ended, none, next, Expands, end, whole, large, replacements, settled, span_of, all_told}
-use Rattle.cl_macro.proofs.Shapes.{Staying, Invoked, Misfitting, Opening, Nothing, ShapeBy, Shape, shape, shape_at, Nexts, EachShape, each_shape}
-use Rattle.cl_macro.proofs.Walking.{append_nil}
+use Rattle.cl_macro.proofs.Shapes.{Staying, Invoked, Misfitting, Opening, Nothing, shape, shape_at, Nexts, each_shape}
 
 pub record Same (out left : List Word) (ns : List Note) (out2 left2 : List Word) (ns2 : List Note) : Type 0 where
   pub words : out ≡ out2

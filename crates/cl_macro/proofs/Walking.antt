@@ -1,16 +1,13 @@
 -- The steps, and how they join.
-use Rattle.std.proofs.Common.{◌≡◌, ℕ, List, [], ◌∷◌, ◌++◌, length, drop, ◌-◌, Option, Some, None, refl, sym, ap, subst, ◌∙◌, append_assoc}
-use Rattle.cl_base.specs.declared.macros.Macro.{Macro}
+use Rattle.std.proofs.Common.{◌≡◌, List, [], ◌∷◌, ◌++◌, length, drop, ◌-◌, refl, sym, ap, subst, ◌∙◌, append_assoc}
 use Rattle.cl_macro.specs.Rules.{Rules}
 use Rattle.cl_macro.specs.declared.word.Word.{Word}
 use Rattle.cl_macro.specs.declared.note.Note.{Note}
 use Rattle.cl_macro.specs.Words.{looks}
-use Rattle.cl_macro.specs.Turns.{Turn, Stays, Invokes, Misfits, Open, turn, args_of, set_of, invoking, stay_notes}
-use Rattle.cl_macro.specs.Made.{made, made_notes}
-use Rattle.cl_macro.specs.Params.{asked, raws}
-use Rattle.cl_macro.specs.Replacing.{Works, Each, done, stays, invokes, misfits, open_ended, none, next}
-use Rattle.cl_macro.specs.Walks.{Comes, Walks, Frame, Called, Inside, Outside, Goes, Between, with_done, with_waiting, made_of, notes_of}
-use Rattle.cl_macro.proofs.Shapes.{Staying, Invoked, Misfitting, Opening, Nothing, ShapeBy, Shape, shape, shape_at}
+use Rattle.cl_macro.specs.Turns.{Stays, Misfits, Open, turn, stay_notes}
+use Rattle.cl_macro.specs.Replacing.{Works, done, stays, misfits, open_ended}
+use Rattle.cl_macro.specs.Walks.{Walks}
+use Rattle.cl_macro.proofs.Shapes.{Staying, Misfitting, Opening, Nothing, shape, shape_at}
 
 pub append_nil : {A : Type 0} (xs : List A) → xs ++ [] ≡ xs
 append_nil [] = refl

@@ -1,5 +1,5 @@
 -- The invocations in work as the code keeps them.
-use Rattle.std.specs.Prelude.{◌≡◌, ℕ, ◌-◌, ◌+◌, ◌≤◌, ◌<◌, ◌++◌, List, [], ◌∷◌, reverse, length, drop, take, map, Option, Some, None}
+use Rattle.std.specs.Prelude.{◌≡◌, ℕ, ◌-◌, ◌+◌, ◌≤◌, ◌++◌, List, [], ◌∷◌, reverse, length, drop, take, map, Option, Some, None}
 use Rattle.std.specs.List.{sum_by}
 use Rattle.cl_base.specs.declared.macros.Macro.{Macro}
 use Rattle.cl_macro.specs.Rules.{Rules}

@@ -11,7 +11,6 @@ use Rattle.cl_macro.specs.Rules.{Rules, TellsTokens}
 use Rattle.cl_macro.specs.declared.turn.Doing.{Doing}
 use Rattle.cl_macro.specs.declared.turn.Doing.TheVariants as doing
 use Rattle.cl_macro.specs.Turns.{Turn, Stays, Invokes, Misfits, Open, turn}
-use Rattle.cl_macro.specs.Words.{same}
 use Rattle.cl_macro.specs.declared.note.Note.{Note}
 use Rattle.cl_macro.specs.declared.walk.Invoked.{Invoked}
 use Rattle.cl_macro.specs.Replacing.{replacements}

@@ -1,5 +1,5 @@
 -- What an invocation is replaced by (N1570 6.10.3.1).
-use Rattle.std.specs.Prelude.{◌≡◌, ℕ, Bool, false, if◌then◌else◌, List, [], ◌∷◌, map, codes, decimal}
+use Rattle.std.specs.Prelude.{ℕ, Bool, false, if◌then◌else◌, List, [], ◌∷◌, map, codes, decimal}
 use Rattle.cl_base.specs.declared.token.Kind.TheVariants as kind
 use Rattle.cl_base.specs.declared.macros.Macro.{Macro}
 use Rattle.cl_macro.specs.declared.word.Word.{Word}

@@ -1,6 +1,5 @@
 -- An invocation of the run, whole.
-use Rattle.std.specs.Prelude.{◌≡◌, ℕ, ◌≤◌, ◌<◌, List, [], ◌∷◌, reverse, Option, Some, None}
-use Rattle.cl_base.specs.declared.macros.Macro.{Macro}
+use Rattle.std.specs.Prelude.{◌≡◌, ℕ, ◌≤◌, ◌<◌, List, [], ◌∷◌, Option, Some, None}
 use Rattle.cl_macro.specs.Rules.{Rules}
 use Rattle.cl_macro.specs.declared.word.Word.{Word}
 use Rattle.cl_macro.specs.declared.note.Note.{Note}

@@ -1,5 +1,5 @@
 -- The tokens of a macro's body (N1570 6.10.3).
-use Rattle.std.specs.Prelude.{◌≡◌, ℕ, ◌+◌, ◌==◌, Bool, true, false, not, ◌&&◌, ◌||◌, if◌then◌else◌, List, [], ◌∷◌, ◌++◌, Option, Some, None, is_some, codes, length}
+use Rattle.std.specs.Prelude.{ℕ, ◌+◌, ◌==◌, Bool, true, false, not, ◌&&◌, ◌||◌, if◌then◌else◌, List, [], ◌∷◌, Option, Some, None, is_some, codes, length}
 use Rattle.std.specs.List.{position}
 use Rattle.cl_base.specs.declared.macros.Macro.{Macro}
 use Rattle.cl_base.specs.declared.macros.BodyToken.{BodyToken}

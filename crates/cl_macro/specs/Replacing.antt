@@ -1,17 +1,16 @@
 -- Macro replacement (N1570 6.10.3.1 to 6.10.3.4, with the sets of Prosser's method): a token that comes out of the
 -- replacement of a name, or stood in its parentheses, isn't replaced for that name again.
-use Rattle.std.specs.Prelude.{◌≡◌, ℕ, zero, suc, ◌+◌, ◌-◌, ◌<◌, ◌≤◌, Bool, true, false, if◌then◌else◌, List, [], ◌∷◌, ◌++◌, length, map, take, drop, Option, Some, None}
+use Rattle.std.specs.Prelude.{◌≡◌, ℕ, ◌+◌, ◌-◌, ◌<◌, ◌≤◌, if◌then◌else◌, List, [], ◌∷◌, ◌++◌, length, map, drop, Some, None}
 use Rattle.cl_base.specs.declared.macros.Macro.{Macro}
 use Rattle.cl_base.specs.declared.token.Span.{Span}
-use Rattle.cl_base.specs.declared.token.PpToken.{PpToken}
 use Rattle.cl_macro.specs.Rules.{Rules}
 use Rattle.cl_macro.specs.declared.word.Word.{Word}
 use Rattle.cl_macro.specs.declared.note.Note.{Note}
 use Rattle.cl_macro.specs.declared.note.Note.TheVariants as note
 use Rattle.cl_macro.specs.declared.note.Told.{Told}
 use Rattle.cl_macro.specs.declared.note.Told.TheVariants as told
-use Rattle.cl_macro.specs.Words.{looks, all_look}
-use Rattle.cl_macro.specs.Turns.{Turn, Stays, Invokes, Misfits, Open, turn, args_of, close_of, set_of, invoking, stay_notes}
+use Rattle.cl_macro.specs.Words.{looks}
+use Rattle.cl_macro.specs.Turns.{Stays, Invokes, Misfits, Open, turn, args_of, set_of, invoking, stay_notes}
 use Rattle.cl_macro.specs.Made.{made, made_notes}
 use Rattle.cl_macro.specs.Params.{asked, raws}
 

@@ -1,7 +1,6 @@
 -- The parts of a body as the code joins them.
-use Rattle.std.specs.Prelude.{◌≡◌, ℕ, Bool, List, [], ◌∷◌, ◌++◌, Option, Some, None}
+use Rattle.std.specs.Prelude.{◌≡◌, ℕ, List, Option, Some, None}
 use Rattle.cl_base.specs.declared.token.Kind.{Kind}
-use Rattle.cl_base.specs.declared.macros.BodyToken.{BodyToken}
 use Rattle.cl_macro.specs.declared.note.Note.{Note}
 use Rattle.cl_macro.specs.declared.part.Part.{Part}
 use Rattle.cl_macro.specs.declared.part.Part.TheVariants as part

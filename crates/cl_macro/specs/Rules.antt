@@ -1,5 +1,5 @@
 -- What replacement goes by.
-use Rattle.std.specs.Prelude.{◌≡◌, ℕ, List, Option, Some, None, MatchOption}
+use Rattle.std.specs.Prelude.{ℕ, List, Option, MatchOption}
 use Rattle.cl_base.specs.declared.token.Kind.{Kind}
 use Rattle.cl_base.specs.declared.macros.Macro.{Macro}
 use Rattle.cl_lex.specs.Items.{IsOneToken}

@@ -1,5 +1,5 @@
-//! Tests of the crates that read a text: ground, tokens, conditions, preprocessing. They stand in a crate of their own,
-//! since a crate with tests is proved twice.
+//! Tests of the crates that read a text: ground, tokens, macro replacement, conditions, preprocessing. They stand in a
+//! crate of their own, since a crate with tests is proved twice.
 #![tactic(auto)]
 
 #[cfg(test)]
@@ -13,11 +13,15 @@ mod large;
 #[cfg(test)]
 mod lexing;
 #[cfg(test)]
+mod macros;
+#[cfg(test)]
 mod one_tokens;
 #[cfg(test)]
 mod places;
 #[cfg(test)]
 mod preprocessing;
+#[cfg(test)]
+mod replaced;
 #[cfg(test)]
 mod sections;
 #[cfg(test)]

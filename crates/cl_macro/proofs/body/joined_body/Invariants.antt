@@ -1,6 +1,5 @@
-use Rattle.std.proofs.Common.{◌≡◌, [], ◌++◌, length, List, Option, ℕ}
+use Rattle.std.proofs.Common.{◌≡◌, [], length, List, Option, ℕ}
 use Rattle.cl_base.specs.declared.token.Kind.{Kind}
-use Rattle.cl_macro.specs.declared.note.Note.{Note}
 use Rattle.cl_macro.specs.Pasting.{joined_body, parts_of, put}
 use Rattle.cl_macro.specs.Resuming.{resume}
 use Rattle.cl_macro.specs.Rules.{TellsTokens}

@@ -1,4 +1,4 @@
-use Rattle.std.proofs.Common.{◌≡◌, sym, subst}
+use Rattle.std.proofs.Common.{sym, subst}
 use Rattle.cl_macro.specs.declared.part.Part.{Part}
 use Rattle.cl_macro.specs.declared.part.Part.TheVariants as part
 use Rattle.cl_macro.specs.Pasting.{glue}

@@ -1,4 +1,4 @@
-use Rattle.std.proofs.Common.{◌≡◌, ◌∙◌, sym, ap, subst, ℕ, List, Some}
+use Rattle.std.proofs.Common.{◌∙◌, sym, ap, subst, ℕ, List, Some}
 use Rattle.cl_lex.specs.Items.{IsOneToken}
 use Rattle.cl_macro.specs.declared.part.Part.TheVariants as part
 use Rattle.cl_macro.specs.Pasting.{one_or}

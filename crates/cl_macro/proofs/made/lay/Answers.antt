@@ -1,8 +1,6 @@
-use Rattle.std.proofs.Common.{◌≡◌, ◌∙◌, ap, refl, sym, arith, [], ◌∷◌, List}
-use Rattle.std.proofs.lemmas.Grind.{common_steps}
-use Rattle.cl_macro.specs.declared.word.Word.{Word}
+use Rattle.std.proofs.Common.{◌∙◌, ap}
 use Rattle.cl_macro.specs.Words.{painted}
-use Rattle.cl_macro.specs.Pasting.{spaced, with_space}
+use Rattle.cl_macro.specs.Pasting.{with_space}
 use Rattle.cl_macro.proofs.Laying.{laid, spaced_first, spaced_last, never}
 use Rattle.cl_macro.proofs.made.lay.Goals as goal
 use Rattle.cl_macro.proofs.made.lay.Goals.{then-is_empty, else-is_empty}

@@ -1,20 +1,17 @@
-use Rattle.std.proofs.Common.{◌≡◌, ◌∙◌, refl, sym, ap, subst, [], ◌∷◌, ◌++◌, ◌<◌, ◌≤◌, ◌+◌, List, length, arith, reverse, ℕ, map, take, Option}
-use Rattle.cl_base.specs.declared.token.Kind.{Kind}
+use Rattle.std.proofs.Common.{◌≡◌, ◌∙◌, refl, sym, ap, subst, [], ◌∷◌, ◌++◌, ◌<◌, ◌≤◌, List, length, arith, reverse, map, take}
 use Rattle.cl_base.specs.declared.token.Span.{Span}
-use Rattle.cl_base.specs.Lines.{IsTableOf, line_at}
 use Rattle.std.proofs.lemmas.Grind.{common_steps}
 use Rattle.cl_macro.specs.declared.word.Word.{Word}
 use Rattle.cl_macro.specs.declared.note.Note.{Note}
 use Rattle.cl_macro.specs.declared.note.Told.{Told}
-use Rattle.cl_macro.specs.Rules.{Rules, TellsTokens}
-use Rattle.cl_macro.specs.Replacing.{Works, Expands, replacements, end, settled, span_of, settled_word, all_told}
+use Rattle.cl_macro.specs.Rules.{Rules}
+use Rattle.cl_macro.specs.Replacing.{Works, Expands, replacements, end, span_of, settled_word, all_told}
 use Rattle.cl_macro.specs.declared.level.Level.{Level}
 use Rattle.cl_macro.specs.Turns.{turn, Invokes, stay_notes}
 use Rattle.cl_macro.specs.Levels.{Suits, Within, lookup, ahead, rules_of}
-use Rattle.cl_macro.specs.Outermost.{Wholly, Outermost}
+use Rattle.cl_macro.specs.Outermost.{Wholly}
 use Rattle.cl_macro.proofs.Walking.{append_nil}
-use Rattle.cl_macro.proofs.Standing.{passes_short}
-use Rattle.cl_macro.proofs.Expanding.{Gone, gone_none, gone_whole, gone_stay, not_large, left_within, within_drop}
+use Rattle.cl_macro.proofs.Expanding.{gone_none, gone_whole, gone_stay, not_large, left_within, within_drop}
 use Rattle.cl_macro.proofs.run.expand_run.Goals as goal
 
 pub loop-first-init : goal.loop-first-init

@@ -1,4 +1,4 @@
-use Rattle.std.proofs.Common.{◌≡◌, length, List, Option, ℕ}
+use Rattle.std.proofs.Common.{length, List, Option, ℕ}
 use Rattle.cl_base.specs.declared.token.Kind.{Kind}
 use Rattle.cl_base.specs.Lines.{IsTableOf}
 use Rattle.cl_macro.specs.Rules.{TellsTokens}

@@ -1,0 +1,303 @@
+use crate::replaced::REPLACED;
+use cl_base::{
+    BodyToken, Duplicate, LineTable, List, Macro, Mem, Memory, Path, PpToken, Span, Token,
+};
+use cl_lex::lex;
+use cl_macro::{Expansion, MacroTable, Told};
+use std::alloc::Global;
+use std::mem;
+use std::test::Fail;
+
+/// Definitions, a text, its tokens with their white space, and what is told: a fault by its number and place, and a use
+/// by its place and the number of tokens before its outermost invocation.
+type ToldRow<'a> = (&'a str, &'a str, &'a str, &'a str);
+
+/// The macro of the tokens of a valid definition.
+fn macro_of(alloc: Global, line: &[Token]) -> Mem<Macro> {
+    let Some((name, behind)) = line.split_first() else {
+        return Err(Memory);
+    };
+    let mut names = List::new(alloc);
+    let mut body = List::new(alloc);
+    let mut function = false;
+    let mut variadic = false;
+    let mut in_params = false;
+    for (i, token) in behind.iter().enumerate() {
+        let text = token.text.bytes();
+        if i == 0 && !token.space && text == b"(".as_slice() {
+            function = true;
+            in_params = true;
+            continue;
+        }
+        if !in_params {
+            body.push(BodyToken {
+                kind: token.kind,
+                text: token.text.duplicate(alloc)?,
+                space: token.space && !body.is_empty(),
+            })?;
+            continue;
+        }
+        if text == b")".as_slice() {
+            in_params = false;
+        } else if text == b"...".as_slice() {
+            variadic = true;
+        } else if text != b",".as_slice() {
+            names.push(token.text.duplicate(alloc)?)?;
+        }
+    }
+    Ok(Macro {
+        name: name.text.duplicate(alloc)?,
+        params: if function { Some(names) } else { None },
+        variadic,
+        body,
+        place: None,
+    })
+}
+
+/// The table of these definitions.
+fn table_of(alloc: Global, defines: &str) -> Mem<MacroTable> {
+    let mut table = MacroTable::new(alloc);
+    let lexed = lex(alloc, defines.as_bytes())?;
+    let mut line: List<Token> = List::new(alloc);
+    for token in lexed.tokens.as_slice() {
+        if token.first && !line.is_empty() {
+            let whole = mem::replace(&mut line, List::new(alloc));
+            let mac = macro_of(alloc, whole.as_slice())?;
+            table.set(alloc, mac)?;
+        }
+        line.push(token.duplicate(alloc)?)?;
+    }
+    let mac = macro_of(alloc, line.as_slice())?;
+    table.set(alloc, mac)?;
+    Ok(table)
+}
+
+/// The tokens of a file's text.
+fn run_of(alloc: Global, text: &[u8]) -> Mem<List<PpToken>> {
+    let lexed = lex(alloc, text)?;
+    let mut run = List::new(alloc);
+    for token in lexed.tokens.as_slice() {
+        let at = Span {
+            file: 0,
+            from: token.from,
+            to: token.to,
+        };
+        run.push(PpToken {
+            kind: token.kind,
+            text: token.text.duplicate(alloc)?,
+            space: token.space,
+            spell: Some(at),
+            at,
+        })?;
+    }
+    Ok(run)
+}
+
+fn expansion(alloc: Global, table: &MacroTable, text: &[u8]) -> Mem<Expansion> {
+    let run = run_of(alloc, text)?;
+    let path = Path::new(alloc, "/a\"b.c")?;
+    let lines = LineTable::new(alloc, text)?;
+    let all = table.expand(alloc, run.as_slice(), &path, &lines)?;
+    Ok(all)
+}
+
+/// The tokens by their spellings, with a space where white space stands.
+fn shown(alloc: Global, all: &Expansion) -> Mem<String> {
+    let mut shown = Vec::new(alloc);
+    for token in all.tokens.as_slice() {
+        if token.space && !shown.is_empty() {
+            shown.push(b' ')?;
+        }
+        shown.extend_from_slice(token.text.bytes())?;
+    }
+    let text = String::from_utf8_lossy(alloc, shown.as_slice())?;
+    Ok(text)
+}
+
+/// The spellings of tokens, one a line.
+fn spellings(alloc: Global, tokens: &[PpToken]) -> Mem<Vec<u8>> {
+    let mut all = Vec::new(alloc);
+    for token in tokens {
+        all.extend_from_slice(token.text.bytes())?;
+        all.push(b'\n')?;
+    }
+    Ok(all)
+}
+
+/// What is told, but for look-ups.
+fn told_of(alloc: Global, all: &Expansion) -> Mem<String> {
+    let mut text = String::new(alloc);
+    for told in all.told.as_slice() {
+        match told {
+            Told::Faulty(number, at) => {
+                let one = format!(in alloc; "!{number}@{}-{} ", at.from, at.to)?;
+                text.push_str(one.as_str())?;
+            }
+            Told::Used(_, at, before) => {
+                let one = format!(in alloc; "{}-{}:{before} ", at.from, at.to)?;
+                text.push_str(one.as_str())?;
+            }
+            Told::Looked(_) => {}
+        }
+    }
+    Ok(text)
+}
+
+/// How many faults are told.
+fn faults_of(all: &Expansion) -> usize {
+    all.told
+        .as_slice()
+        .iter()
+        .filter(|told| matches!(**told, Told::Faulty(_, _)))
+        .count()
+}
+
+/// Sixteen macros, each twice the one before.
+fn doublings(alloc: Global) -> Mem<MacroTable> {
+    let mut text = String::new(alloc);
+    text.push_str("a0 0\n")?;
+    let mut last = 0;
+    for i in 1..=15u32 {
+        let one = format!(in alloc; "a{i} a{last} a{last}\n")?;
+        text.push_str(one.as_str())?;
+        last = i;
+    }
+    text.push_str("b a15\n")?;
+    table_of(alloc, text.as_str())
+}
+
+/// An invocation makes 65,535 replacements, and not one more.
+#[test]
+fn as_many_replacements_as_there_may_be(rt: HostRuntime) -> Result<(), Fail> {
+    let alloc = rt.alloc();
+    let table = doublings(alloc)?;
+    let whole = expansion(alloc, &table, b"a15".as_slice())?;
+    assert!(rt; whole.tokens.len() == 32_768 && faults_of(&whole) == 0);
+    let large = expansion(alloc, &table, b"x b a3".as_slice())?;
+    assert!(rt; large.tokens.len() == 10);
+    let told = told_of(alloc, &large)?;
+    assert!(rt; told.as_str() == "!17@2-3 4-6:2 ", "{told}");
+    Ok(())
+}
+
+/// A long run, and invocations in one another, need no stack as deep.
+#[test]
+fn long_runs_and_deep_invocations(rt: HostRuntime) -> Result<(), Fail> {
+    let alloc = rt.alloc();
+    let table = table_of(alloc, "f(x) x")?;
+    let mut text = Vec::new(alloc);
+    for _ in 0..10_000 {
+        text.extend_from_slice(b"a + f(1) ".as_slice())?;
+    }
+    for _ in 0..500 {
+        text.extend_from_slice(b"f(".as_slice())?;
+    }
+    text.push(b'2')?;
+    for _ in 0..500 {
+        text.push(b')')?;
+    }
+    let all = expansion(alloc, &table, text.as_slice())?;
+    assert!(rt; all.tokens.len() == 30_001 && faults_of(&all) == 0);
+    Ok(())
+}
+
+/// A definition stands until another one, or until it is taken away.
+#[test]
+fn definitions_come_and_go(rt: HostRuntime) -> Result<(), Fail> {
+    let alloc = rt.alloc();
+    let mut table = table_of(alloc, "x 1\ny 2\nx 3")?;
+    let text = b"x y z".as_slice();
+    let all = expansion(alloc, &table, text)?;
+    let found = shown(alloc, &all)?;
+    assert!(rt; found.as_str() == "3 2 z", "{found}");
+    let run = run_of(alloc, text)?;
+    for token in run.as_slice() {
+        table.undef(&token.text);
+        assert!(rt; table.find(&token.text).is_none());
+    }
+    let all = expansion(alloc, &table, text)?;
+    let found = shown(alloc, &all)?;
+    assert!(rt; found.as_str() == "x y z", "{found}");
+    Ok(())
+}
+
+#[test]
+fn faults_uses_and_white_space(rt: HostRuntime) -> Result<(), Fail> {
+    let alloc = rt.alloc();
+    let rows: [ToldRow<'_>; 12] = [
+        ("f(a) a", "x f(1, 2) y", "x f(1, 2) y", "!19@2-3 "),
+        ("f(a) a", "x f(1 y", "x f(1 y", "!20@2-3 "),
+        (
+            "f(a) [a]\ng(a) a",
+            "f(g(1,2) 3)",
+            "[g(1,2) 3]",
+            "0-1:0 !19@0-11 !19@0-11 ",
+        ),
+        (
+            "f(a,b) a##b",
+            "f(<,x) f(1,2)",
+            "<x 12",
+            "0-1:0 !21@0-6 7-8:2 ",
+        ),
+        ("f(a,b) a ## b", "f( + , - )", "+-", "0-1:0 !21@0-10 "),
+        (
+            "l __LINE__",
+            "l\n\nl\r\nl",
+            "__LINE__ __LINE__ __LINE__",
+            "0-1:0 3-4:1 6-7:2 ",
+        ),
+        (
+            "__LINE__\n__FILE__\nl __LINE__ __FILE__",
+            "__LINE__\n[__FILE__]\nl",
+            "1 [\"/a\\\"b.c\"] 3 \"/a\\\"b.c\"",
+            "0-8:0 10-18:2 20-21:4 ",
+        ),
+        (
+            "x 1\nf(a) a+a",
+            "[f(x)] f ( x )",
+            "[1+1] 1+1",
+            "1-2:1 3-4:1 7-8:5 11-12:5 ",
+        ),
+        ("f(a) a\nh f(", "h 1) 2", "1 2", "0-1:0 "),
+        ("f(a) -a", "f(f(f(1)))", "---1", "0-1:0 2-3:0 4-5:0 "),
+        (
+            "e\nf(a) [ a]",
+            "x e y f() f(e)",
+            "x y [] []",
+            "2-3:1 6-7:2 10-11:4 12-13:4 ",
+        ),
+        ("v(a,b,...) a", "v() v(1,2)", "v() 1", "!19@0-1 4-5:3 "),
+    ];
+    for (defines, text, tokens, told) in rows {
+        let table = table_of(alloc, defines)?;
+        let all = expansion(alloc, &table, text.as_bytes())?;
+        let found = shown(alloc, &all)?;
+        assert!(rt; found.as_str() == tokens, "{found} for {text}");
+        let found = told_of(alloc, &all)?;
+        assert!(rt; found.as_str() == told, "{found} for {text}");
+    }
+    Ok(())
+}
+
+#[test]
+fn as_another_preprocessor(rt: HostRuntime) -> Result<(), Memory> {
+    let alloc = rt.alloc();
+    for group in REPLACED.split("\n----\n") {
+        let (defines, cases) = group.split_once("\n>> ").unwrap_or((group, ""));
+        let table = table_of(alloc, defines)?;
+        for case in cases.split("\n>> ") {
+            let (text, wanted) = case.split_once("\n=>").unwrap_or((case, "none"));
+            assert!(rt; comes_to(alloc, &table, text, wanted)?, "of {text}");
+        }
+    }
+    Ok(())
+}
+
+/// Whether a text comes to the tokens of another, by their spellings.
+fn comes_to(alloc: Global, table: &MacroTable, text: &str, wanted: &str) -> Mem<bool> {
+    let all = expansion(alloc, table, text.as_bytes())?;
+    let wanted = run_of(alloc, wanted.as_bytes())?;
+    let found_text = spellings(alloc, all.tokens.as_slice())?;
+    let wanted_text = spellings(alloc, wanted.as_slice())?;
+    Ok(found_text == wanted_text)
+}
