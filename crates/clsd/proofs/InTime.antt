@@ -1,5 +1,5 @@
 -- A session that is settled wherever a message is received ends no request early.
-use Rattle.std.proofs.Common.{◌≡◌, ℕ, ℤ, List, [], ◌∷◌, filter, Bool, sym, subst}
+use Rattle.std.proofs.Common.{◌≡◌, ℕ, ℤ, List, [], ◌∷◌, filter, sym, subst}
 use Rattle.std.specs.Prelude.{Option, Some, None}
 use Rattle.cl_rpc.specs.declared.out.How.{How}
 use Rattle.cl_rpc.specs.declared.out.How.TheVariants as how
@@ -9,7 +9,7 @@ use Rattle.cl_history.specs.declared.entry.Entry.{Entry}
 use Rattle.cl_history.specs.declared.entry.Entry.TheVariants.{In, Load, Reply, Notify}
 use Rattle.cl_history.specs.Given.{Given, said}
 use Rattle.cl_history.specs.History.{End, ends, is_initialised, is_meant, pending, pending_meant, refusal, text_at}
-use Rattle.cl_history.specs.Legal.{Due, all_as, due_by, due_to, due_to_accepted, how_ended, rest_of, owed, AllFollow, MayReply, IsSettled}
+use Rattle.cl_history.specs.Legal.{Due, all_as, due_by, due_to_accepted, how_ended, rest_of, owed, AllFollow, MayReply, IsSettled}
 use Rattle.clsd.specs.Sessions.{IsInTime, AreInTime}
 
 -- no reply that is due ends a request early

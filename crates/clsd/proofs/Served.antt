@@ -1,6 +1,6 @@
 -- What a step of the core and the writing of its replies leave.
-use Rattle.std.proofs.Common.{◌≡◌, ◌⊎◌, inl, inr, refl, ℕ, ◌+◌, ◌≤◌, List, [], ◌∷◌, ◌++◌, map, Bool, true, false, sym, ap, subst, ◌∙◌, append_assoc, append-nil, arith}
-use Rattle.std.specs.Prelude.{Option, Some, None, Result, Ok, Err, reverse, slice_get, if◌then◌else◌}
+use Rattle.std.proofs.Common.{◌≡◌, ◌⊎◌, inl, inr, refl, ℕ, ◌+◌, List, [], ◌++◌, map, Bool, true, false, sym, ap, subst, ◌∙◌, append_assoc, append-nil, arith}
+use Rattle.std.specs.Prelude.{Option, Some, None, Result, Ok, Err, slice_get, if◌then◌else◌}
 use Rattle.std.specs.Bool.{MatchBool}
 use Rattle.std.specs.Io.KnownBytes.{append_known}
 use Rattle.cl_rpc.specs.declared.call.Parsed.{Parsed}
@@ -11,9 +11,8 @@ use Rattle.cl_core.specs.declared.event.Event.{Event}
 use Rattle.cl_core.specs.declared.event.Event.TheVariants as event
 use Rattle.cl_query.specs.declared.job.Job.{Job}
 use Rattle.cl_query.specs.AnswerOf.{AnswerOf}
-use Rattle.cl_history.specs.declared.entry.Entry.{Entry}
 use Rattle.cl_history.specs.Given.{Given}
-use Rattle.cl_history.specs.History.{is_shut_down, pending}
+use Rattle.cl_history.specs.History.{pending}
 use Rattle.cl_history.specs.Legal.{IsSettled}
 use Rattle.cl_history.specs.Written.{Writes}
 use Rattle.cl_core.specs.Steps.{hears, is_exit}
@@ -55,13 +54,6 @@ all_written held all before sink told wrote = wrote ∙ ap (λ (w : Option (List
 pub cut_off : (given : Given) (new : Core) (held : List ℕ) (sink : Option (List ℕ)) → Stands given new held → sink ≡ Some held → Holds sink (IsCutOff given new)
 cut_off given new held sink now told =
     (held, told, record { stands = now.stands; unwritten = []; writes = rw (append-nil held) now.writes; settled = now.settled })
-
--- the same as before
-pub keeps_so : (given : Given) (core : Core) (held : List ℕ) → Keeps given core held → Stands given core held
-keeps_so given core held keeps = record { stands = keeps.stands; writes = keeps.writes; settled = keeps.settled }
-
-pub works_so : (given : Given) (core : Core) (job : Job) (held : List ℕ) → Works given core job held → Stands given core held
-works_so given core job held works = record { stands = works.stands; writes = works.writes; settled = works.settled }
 
 -- where none waits none is pending
 pub none_pending : (given : Given) (core : Core) → StandsFor given core → core.pending ≡ [] → pending given (past_of core) ≡ []

@@ -1,5 +1,5 @@
 -- What a session that is served keeps from message to message. `held` is what its sink holds.
-use Rattle.std.specs.Prelude.{◌≡◌, ◌⊎◌, ℕ, ◌+◌, ◌≤◌, List, [], ◌∷◌, ◌++◌, true, false, if◌then◌else◌, Option, Some, None, Result, Ok, Err}
+use Rattle.std.specs.Prelude.{◌≡◌, ◌⊎◌, ℕ, ◌+◌, ◌≤◌, List, [], ◌++◌, true, false, if◌then◌else◌, Option, Some, None, Result, Ok, Err}
 use Rattle.cl_base.specs.declared.memory.Memory.{Memory}
 use Rattle.cl_query.specs.declared.job.Job.{Job}
 use Rattle.cl_rpc.specs.declared.call.Parsed.{Parsed}
