@@ -14,11 +14,13 @@ fn a_copy_keeps_what_it_had(rt: HostRuntime) -> Result<(), Memory> {
     let mut headers = HeaderMap::new(alloc)?;
     headers.put(alloc, Path::new(alloc, "/a.h")?, Known::Absent)?;
     let before = headers.duplicate(alloc)?;
-    headers.put(alloc, Path::new(alloc, "/a.h")?, found(alloc, "int a;")?)?;
+    let text = Text::new(alloc, b"int a;")?;
+    headers.put(alloc, Path::new(alloc, "/a.h")?, Known::Found(text))?;
     headers.put(alloc, Path::new(alloc, "/b.h")?, Known::Failed)?;
     assert!(rt; known(alloc, &before, "/a.h")? == Some(Known::Absent));
     assert!(rt; known(alloc, &before, "/b.h")?.is_none());
-    assert!(rt; known(alloc, &headers, "/a.h")? == Some(found(alloc, "int a;")?));
+    let text = Text::new(alloc, b"int a;")?;
+    assert!(rt; known(alloc, &headers, "/a.h")? == Some(Known::Found(text)));
     let later = headers.duplicate(alloc)?;
     headers.forget(alloc, &Path::new(alloc, "/b.h")?)?;
     assert!(rt; known(alloc, &headers, "/b.h")?.is_none());
@@ -55,11 +57,6 @@ fn many_headers(rt: HostRuntime) -> Result<(), Memory> {
     assert!(rt; known(alloc, &last, "/99.h")?.is_none());
     assert!(rt; known(alloc, &last, "/98.h")? == Some(Known::Absent));
     Ok(())
-}
-
-fn found(alloc: Global, text: &str) -> Mem<Known> {
-    let text = Text::new(alloc, text.as_bytes())?;
-    Ok(Known::Found(text))
 }
 
 /// What is known of a path.
