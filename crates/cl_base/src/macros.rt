@@ -22,3 +22,19 @@ pub struct Macro {
     pub body: List<BodyToken>,
     pub place: Option<Span>,
 }
+
+/// The number of a macro event, from 0.
+#[derive(Clone, Copy)]
+pub struct MacroNo(pub u32);
+
+/// A macro event: from here on the name has this macro, or none. A definition that is the same as the one before it is no
+/// event.
+#[derive(Drop)]
+pub struct MacroEvent {
+    pub name: Name,
+    pub set: Option<Macro>,
+}
+
+/// What a text stands on that nothing goes before: it gives no name a meaning.
+#[derive(Clone, Copy)]
+pub struct EmptyBase;
