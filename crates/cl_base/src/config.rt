@@ -14,21 +14,21 @@ use std::marker::Model;
 use std::sync::Arc;
 
 /// A macro that is defined before a text begins: its name, and its replacement list as text.
-#[derive(Debug, Drop, PartialEq, Eq)]
+#[derive(Drop, PartialEq, Eq)]
 pub struct Define {
     pub name: Name,
     pub text: Text,
 }
 
 /// What a config says: the folders in which headers are looked for, in order, and the macros that are defined, in order.
-#[derive(Debug, Drop, PartialEq, Eq)]
+#[derive(Drop, PartialEq, Eq)]
 pub struct Settings {
     pub includes: List<Path>,
     pub defines: List<Define>,
 }
 
 /// The settings of a session. Copies share them: `duplicate` costs one count, however many there are.
-#[derive(Debug, Drop)]
+#[derive(Drop)]
 pub struct Config {
     settings: Arc<Settings, Global>,
 }
