@@ -1,8 +1,11 @@
 //! Macros (N1570 6.10.3).
 
+use crate::duplicate::Duplicate;
 use crate::list::List;
+use crate::memory::Mem;
 use crate::name::Name;
 use crate::token::{Kind, Span};
+use std::alloc::Global;
 
 /// A token of a replacement list. `space` says that white space stands directly before it.
 #[derive(Drop)]
@@ -38,3 +41,32 @@ pub struct MacroEvent {
 /// What a text stands on that nothing goes before: it gives no name a meaning.
 #[derive(Clone, Copy)]
 pub struct EmptyBase;
+
+impl Duplicate for BodyToken {
+    fn duplicate(&self, alloc: Global) -> Mem<BodyToken> {
+        let text = self.text.duplicate(alloc)?;
+        Ok(BodyToken {
+            kind: self.kind,
+            text,
+            space: self.space,
+        })
+    }
+}
+
+impl Duplicate for Macro {
+    fn duplicate(&self, alloc: Global) -> Mem<Macro> {
+        let name = self.name.duplicate(alloc)?;
+        let params = match &self.params {
+            Some(params) => Some(params.duplicate(alloc)?),
+            None => None,
+        };
+        let body = self.body.duplicate(alloc)?;
+        Ok(Macro {
+            name,
+            params,
+            variadic: self.variadic,
+            body,
+            place: self.place,
+        })
+    }
+}
