@@ -1,0 +1,4 @@
+pub mod Escapes
+pub mod Ways
+pub mod Wholes
+pub mod Naming
