@@ -1,2 +1,5 @@
+mod Forks
 mod Put
+mod Row
 mod Same
+mod Within

@@ -1,5 +1,5 @@
 -- Equality of what is known decides whether it is the same.
-use Rattle.std.proofs.Common.{◌≡◌, ℕ, List, [], true, false, refl, ap}
+use Rattle.std.proofs.Common.{◌≡◌, ℕ, List, [], refl, ap}
 use Rattle.std.proofs.lemmas.Bool.{false≢true}
 use Rattle.std.proofs.lemmas.Slice.Eq.{bytes_eq-Decides}
 use Rattle.std.specs.Bool.{Decides}

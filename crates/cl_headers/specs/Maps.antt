@@ -1,5 +1,5 @@
 -- What holds of every header map.
-use Rattle.std.specs.Prelude.{◌≡◌, ◌≢◌, ℕ, List}
+use Rattle.std.specs.Prelude.{◌≢◌, ℕ, List}
 use Rattle.std.specs.List.{AllByRecursion}
 use Rattle.std.specs.List.Sorted.{IsStrictlySortedBy}
 use Rattle.std.specs.Map.{keys_of}
@@ -9,7 +9,11 @@ use Rattle.cl_base.specs.declared.headers.Known.{Known}
 use Rattle.cl_base.specs.declared.headers.Known.TheVariants.{Unknown}
 use Rattle.cl_headers.specs.Headers.{Headers}
 
--- each path stands once, in the order of the paths' bytes, and nothing is put down as unknown
+-- each path stands once, in the order of the paths' bytes
+abbrev pub InOrder : Headers → Type 0
+InOrder headers = IsStrictlySortedBy (slice_cmp nat_cmp) (keys_of headers)
+
+-- and nothing is put down as unknown
 pub record IsHeaderMap (headers : Headers) : Type 0 where
-  pub ordered : IsStrictlySortedBy (slice_cmp nat_cmp) (keys_of headers)
+  pub ordered : InOrder headers
   pub told : AllByRecursion (λ (entry : List ℕ × Known). entry.1 ≢ Unknown) headers

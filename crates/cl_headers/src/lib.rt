@@ -2,5 +2,6 @@
 #![tactic(auto)]
 
 mod map;
+mod tree;
 
 pub use map::HeaderMap;
