@@ -4,7 +4,7 @@ use Rattle.std.specs.Prelude.{min}
 use Rattle.std.proofs.lemmas.Bool.{cases_lt}
 use Rattle.std.proofs.lemmas.List.{drop_all, take_min}
 use Rattle.cl_const.specs.declared.char_type.CharType.{CharType}
-use Rattle.cl_const.specs.Characters.{are_chars, char_len, code_of, stands}
+use Rattle.cl_const.specs.Characters.{are_chars, c_char_len, code_of, stands}
 
 -- those that belong to what is before are passed
 passed : (t : CharType) (n : ℕ) (bs : List ℕ) → are_chars t n bs ≡ are_chars t 0 (drop n bs)
@@ -25,12 +25,12 @@ drop_one zero b bs h = absurd (omega arith)
 drop_one (suc n) b bs h = ap (λ (k : ℕ). drop k bs) (omega arith)
 
 -- one character, and those after it
-pub one_more : (t : CharType) (bs front left : List ℕ) (n k : ℕ) → 0 < length bs → 0 < n → n ≡ char_len bs → k ≡ min n (length bs) → front ≡ take k bs → left ≡ drop k bs
+pub one_more : (t : CharType) (bs front left : List ℕ) (n k : ℕ) → 0 < length bs → 0 < n → n ≡ c_char_len bs → k ≡ min n (length bs) → front ≡ take k bs → left ≡ drop k bs
     → are_chars t 0 bs ≡ (stands t (code_of front) && are_chars t 0 left)
 one_more t [] front left n m h k e i f g = absurd (omega arith)
 one_more t (b ∷ bs) front left n m h k e i f g =
-    let some : 0 < char_len (b ∷ bs) = omega arith in
-    let here : take (char_len (b ∷ bs)) (b ∷ bs) ≡ front = ap (λ (m : ℕ). take m (b ∷ bs)) (sym e) ∙ sym (take_min n (b ∷ bs)) ∙ ap (λ (j : ℕ). take j (b ∷ bs)) (sym i) ∙ sym f in
-    let rest : drop (char_len (b ∷ bs) - 1) bs ≡ left = drop_one (char_len (b ∷ bs)) b bs some ∙ ap (λ (m : ℕ). drop m (b ∷ bs)) (sym e) ∙ drop_most n (b ∷ bs) ∙ ap (λ (j : ℕ). drop j (b ∷ bs)) (sym i) ∙ sym g in
-    ap (λ (c : List ℕ). stands t (code_of c) && are_chars t (char_len (b ∷ bs) - 1) bs) here
-    ∙ ap (λ (x : Bool). stands t (code_of front) && x) (passed t (char_len (b ∷ bs) - 1) bs ∙ ap (are_chars t 0) rest)
+    let some : 0 < c_char_len (b ∷ bs) = omega arith in
+    let here : take (c_char_len (b ∷ bs)) (b ∷ bs) ≡ front = ap (λ (m : ℕ). take m (b ∷ bs)) (sym e) ∙ sym (take_min n (b ∷ bs)) ∙ ap (λ (j : ℕ). take j (b ∷ bs)) (sym i) ∙ sym f in
+    let rest : drop (c_char_len (b ∷ bs) - 1) bs ≡ left = drop_one (c_char_len (b ∷ bs)) b bs some ∙ ap (λ (m : ℕ). drop m (b ∷ bs)) (sym e) ∙ drop_most n (b ∷ bs) ∙ ap (λ (j : ℕ). drop j (b ∷ bs)) (sym i) ∙ sym g in
+    ap (λ (c : List ℕ). stands t (code_of c) && are_chars t (c_char_len (b ∷ bs) - 1) bs) here
+    ∙ ap (λ (x : Bool). stands t (code_of front) && x) (passed t (c_char_len (b ∷ bs) - 1) bs ∙ ap (are_chars t 0) rest)

@@ -1,5 +1,5 @@
 -- Character constants (N1570 6.4.4.4).
-use Rattle.std.specs.Prelude.{ℕ, ℤ, zero, suc, pos, ◌-ℤ◌, ◌+◌, ◌-◌, ◌^◌, ◌==◌, Bool, true, false, not, ◌&&◌, ◌||◌, if◌then◌else◌, nat_lt, nat_le, min, List, [], ◌∷◌, take, length, slice_index, slice_range, Option, Some, None}
+use Rattle.std.specs.Prelude.{ℕ, ℤ, zero, suc, pos, ◌-ℤ◌, ◌+◌, ◌-◌, ◌^◌, ◌==◌, Bool, true, false, not, ◌&&◌, ◌||◌, if◌then◌else◌, nat_lt, nat_le, min, max, List, [], ◌∷◌, take, length, slice_index, slice_range, Option, Some, None}
 use Rattle.std.specs.List.{list_all, prefix_len}
 use Rattle.cl_const.specs.declared.number.Number.{Number}
 use Rattle.cl_const.specs.declared.number.Number.TheVariants.{Signed, Unsigned}
@@ -11,7 +11,8 @@ use Rattle.cl_const.specs.declared.escape.Code.{Code}
 use Rattle.cl_const.specs.declared.escape.Code.TheVariants.{Element, Character}
 use Rattle.cl_const.specs.declared.characters.Constant.{Constant}
 use Rattle.cl_const.specs.declared.characters.Constant.TheVariants.{Known, Unknown}
-use Rattle.cl_const.specs.Integers.{is_between, is_digit, digits_value}
+use Rattle.cl_base.specs.Characters.{char_len, is_between}
+use Rattle.cl_const.specs.Integers.{is_digit, digits_value}
 use Rattle.cl_const.specs.Utf8.{code_point}
 
 -- ---- the types, by the prefix `L`, `u` or `U` (6.4.4.4p9 to p11)
@@ -134,15 +135,10 @@ escape_len (byte ∷ more) =
     else if is_digit Octal byte then min 3 (prefix_len (is_digit Octal) (byte ∷ more))
     else 1
 
--- how long a c-char is, if one begins there: a character by its first byte
-abbrev pub char_len : List ℕ → ℕ
-char_len [] = 0
-char_len (byte ∷ more) =
-    if byte == 92 then 1 + escape_len more
-    else if nat_lt byte 128 then 1
-    else if nat_lt byte 224 then 2
-    else if nat_lt byte 240 then 3
-    else 4
+-- how long a c-char is, if one begins there. A byte at which no character begins stands alone, and is none
+abbrev pub c_char_len : List ℕ → ℕ
+c_char_len [] = 0
+c_char_len (byte ∷ more) = if byte == 92 then 1 + escape_len more else max (char_len (byte ∷ more) 0) 1
 
 -- the value of an octal or hexadecimal escape is one of the unsigned type (6.4.4.4p9)
 abbrev pub fits : CharType → Code → Bool
@@ -157,7 +153,7 @@ stands t (Some code) = fits t code
 abbrev pub are_chars : CharType → ℕ → List ℕ → Bool
 are_chars t n [] = true
 are_chars t (suc n) (byte ∷ text) = are_chars t n text
-are_chars t zero (byte ∷ text) = stands t (code_of (take (char_len (byte ∷ text)) (byte ∷ text))) && are_chars t (char_len (byte ∷ text) - 1) text
+are_chars t zero (byte ∷ text) = stands t (code_of (take (c_char_len (byte ∷ text)) (byte ∷ text))) && are_chars t (c_char_len (byte ∷ text) - 1) text
 
 -- ---- the constant
 
@@ -190,7 +186,7 @@ alone_by t (Some code) = Some (alone t code)
 abbrev pub constant_of : CharType → List ℕ → Option Constant
 constant_of t body =
     if is_empty body || not (are_chars t 0 body) then None
-    else if nat_le (length body) (char_len body) then alone_by t (code_of body)
+    else if nat_le (length body) (c_char_len body) then alone_by t (code_of body)
     else Some (Unknown (is_unsigned_char t))
 
 -- a quote stands behind the prefix, and another one at the end

@@ -1,14 +1,12 @@
 -- Integer constants (N1570 6.4.4.1), as `#if` has them.
-use Rattle.std.specs.Prelude.{◌≡◌, ◌≢◌, ◌⊎◌, ◌++◌, ℕ, pos, ◌+◌, ◌-◌, ◌*◌, ◌^◌, ◌==◌, Bool, true, false, not, ◌&&◌, ◌||◌, if◌then◌else◌, nat_lt, nat_le, nat_eq, List, [], ◌∷◌, take, drop, codes, Option, Some, None}
+use Rattle.std.specs.Prelude.{◌≡◌, ◌≢◌, ◌⊎◌, ◌++◌, ℕ, pos, ◌+◌, ◌-◌, ◌*◌, ◌^◌, ◌==◌, Bool, true, false, not, ◌&&◌, ◌||◌, if◌then◌else◌, nat_lt, nat_eq, List, [], ◌∷◌, take, drop, codes, Option, Some, None}
 use Rattle.std.specs.List.{list_all, list_any, prefix_len, fold}
 use Rattle.std.specs.Cmp.Lexicographic.{pointwise}
+use Rattle.cl_base.specs.Characters.{is_between}
 use Rattle.cl_const.specs.declared.number.Number.{Number}
 use Rattle.cl_const.specs.declared.number.Number.TheVariants.{Signed, Unsigned}
 use Rattle.cl_const.specs.declared.integers.Base.{Base}
 use Rattle.cl_const.specs.declared.integers.Base.TheVariants.{Octal, Decimal, Hexadecimal}
-
-abbrev pub is_between : ℕ → ℕ → ℕ → Bool
-is_between low high byte = nat_le low byte && nat_le byte high
 
 -- `0x` or `0X` begins a hexadecimal-constant, another `0` an octal-constant, and anything else a decimal-constant
 abbrev pub base_of : List ℕ → Base

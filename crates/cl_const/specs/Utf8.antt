@@ -1,33 +1,22 @@
--- The characters outside ASCII, as UTF-8 writes them (RFC 3629).
-use Rattle.std.specs.Prelude.{◌≤◌, ◌≡◌, ℕ, ◌+◌, ◌-◌, ◌*◌, Bool, not, ◌&&◌, if◌then◌else◌, nat_le, List, [], ◌∷◌, Option, Some, None}
+-- The codes of the characters outside ASCII, as UTF-8 writes them (RFC 3629, section 3).
+use Rattle.std.specs.Prelude.{◌≤◌, ◌≡◌, ℕ, ◌+◌, ◌*◌, ◌%◌, ◌==◌, if◌then◌else◌, List, [], ◌∷◌, length, Option, Some, None}
 use Rattle.std.specs.Char.{IsScalar, encode_utf8}
-use Rattle.cl_const.specs.Integers.{is_between}
+use Rattle.cl_base.specs.Characters.{char_len}
 
-abbrev pub is_tail : ℕ → Bool
-is_tail byte = is_between 128 191 byte
-
+-- a code, and behind it the six bits that a further byte holds
 abbrev pub tail : ℕ → ℕ → ℕ
-tail code byte = code * 64 + (byte - 128)
+tail code byte = code * 64 + byte % 64
 
-abbrev pub code_of_two : ℕ → ℕ → Option ℕ
-code_of_two a b = if is_between 194 223 a && is_tail b then Some (tail (a - 192) b) else None
+-- the bits that two, three or four bytes hold of a code: the first five, four or three, and each further one six
+abbrev pub code_in : List ℕ → Option ℕ
+code_in (a ∷ b ∷ []) = Some (tail (a % 32) b)
+code_in (a ∷ b ∷ c ∷ []) = Some (tail (tail (a % 16) b) c)
+code_in (a ∷ b ∷ c ∷ d ∷ []) = Some (tail (tail (tail (a % 8) b) c) d)
+code_in _ = None
 
-abbrev pub code_of_three : ℕ → ℕ → ℕ → Option ℕ
-code_of_three a b c =
-    let code = tail (tail (a - 224) b) c in
-    if is_between 224 239 a && (is_tail b && is_tail c) && (nat_le 2048 code && not (is_between 55296 57343 code)) then Some code else None
-
-abbrev pub code_of_four : ℕ → ℕ → ℕ → ℕ → Option ℕ
-code_of_four a b c d =
-    let code = tail (tail (tail (a - 240) b) c) d in
-    if is_between 240 244 a && (is_tail b && (is_tail c && is_tail d)) && is_between 65536 1114111 code then Some code else None
-
--- the character that UTF-8 writes as these two, three or four bytes
+-- the character that these two, three or four bytes are
 abbrev pub code_point : List ℕ → Option ℕ
-code_point (a ∷ b ∷ []) = code_of_two a b
-code_point (a ∷ b ∷ c ∷ []) = code_of_three a b c
-code_point (a ∷ b ∷ c ∷ d ∷ []) = code_of_four a b c d
-code_point _ = None
+code_point bytes = if char_len bytes 0 == length bytes then code_in bytes else None
 
 -- ---- the same by UTF-8
 

@@ -16,6 +16,7 @@ pub enum CharType {
     Char32,
 }
 
+/// The type of the constant that is spelled so, by its first byte.
 pub fn char_type_of(text: &[u8]) -> CharType
     ensures { result ≡ char_type_of text.now }
 {

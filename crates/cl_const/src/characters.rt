@@ -1,7 +1,7 @@
 //! Character constants (N1570 6.4.4.4).
 
 ghost use Rattle.std.specs.Prelude.{◌≡◌, ◌+◌, ◌<◌, ◌≤◌, length, true};
-ghost use Rattle.cl_const.specs.Characters.{alone, are_chars, char_len, character, constant_of, escape_len, is_quoted, stands};
+ghost use Rattle.cl_const.specs.Characters.{alone, are_chars, c_char_len, character, constant_of, escape_len, is_quoted, stands};
 
 use crate::char_type::{
     CharType, char_type_of, fits, front_of, in_type, is_single, is_unsigned_char, number_of,
@@ -9,6 +9,7 @@ use crate::char_type::{
 use crate::escape::{Code, code_of};
 use crate::integers::{Base, digit_count};
 use crate::number::Number;
+use cl_base::char_len;
 
 /// What a constant is worth.
 #[derive(Clone, Copy)]
@@ -51,7 +52,7 @@ fn constant_of(char_type: CharType, body: &[u8]) -> Option<Constant>
     if body.is_empty() || !are_chars(char_type, body) {
         return None;
     }
-    if body.len() <= char_len(body) {
+    if body.len() <= c_char_len(body) {
         let code = code_of(body)?;
         Some(alone(char_type, code))
     } else {
@@ -80,7 +81,7 @@ fn are_chars(char_type: CharType, body: &[u8]) -> bool
 {
     let mut rest = body;
     while !rest.is_empty() {
-        let (spelling, left) = rest.split_at(char_len(rest).min(rest.len()));
+        let (spelling, left) = rest.split_at(c_char_len(rest).min(rest.len()));
         if !stands(char_type, code_of(spelling)) {
             return false;
         }
@@ -99,18 +100,17 @@ fn stands(char_type: CharType, code: Option<Code>) -> bool
     }
 }
 
-/// How long the character or the escape sequence is, if one begins there.
-fn char_len(text: &[u8]) -> usize
+/// How long the character or the escape sequence is, if one begins there. A byte at which no character begins stands
+/// alone, and is none.
+fn c_char_len(text: &[u8]) -> usize
     requires { 0 < length text.now }
-    ensures value { result ≡ char_len text.now }
+    ensures value { result ≡ c_char_len text.now }
     ensures some { 0 < result }
 {
-    match text[0] {
-        b'\\' => 1 + escape_len(&text[1..]),
-        0..=127 => 1,
-        128..=223 => 2,
-        224..=239 => 3,
-        _ => 4,
+    if text[0] == b'\\' {
+        1 + escape_len(&text[1..])
+    } else {
+        char_len(text, 0).max(1)
     }
 }
 
