@@ -7,7 +7,18 @@ ghost use Rattle.cl_base.specs.declared.config.Settings.{Settings};
 ghost use Rattle.cl_headers.specs.Headers.{Headers};
 ghost use Rattle.cl_query.specs.AnswerOf.{AnswerOf};
 
+use cl_parse::some_items;
+use cl_pp::some_preprocessing;
+
 /// A query about a text has one answer under the same settings and with the same headers.
 pub fn one_answer()
     ensures { (kind : Query) (config : Settings) (headers : Headers) (path text : List ℕ) (x y : Answer) → AnswerOf kind config headers path text x → AnswerOf kind config headers path text y → x ≡ y }
 {}
+
+/// Every query about a text has an answer, under any settings and with any headers.
+pub fn some_answer()
+    ensures { (kind : Query) (config : Settings) (headers : Headers) (path text : List ℕ) → (answer : Answer) × AnswerOf kind config headers path text answer }
+{
+    some_preprocessing();
+    some_items();
+}

@@ -10,5 +10,5 @@ mod symbols;
 
 pub use done::{Done, JobAnswer, Need};
 pub use job::Job;
-pub use laws::one_answer;
+pub use laws::{one_answer, some_answer};
 pub use run::run_job;
