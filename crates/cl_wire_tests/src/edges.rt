@@ -74,9 +74,7 @@ fn a_source_hands_on_what_is_read(rt: HostRuntime) -> Result<(), Fail> {
             calls: 0,
             fails,
         };
-        let Ok(mut source) = StdSource::new(alloc, reader) else {
-            return Err(Fail::from("memory"));
-        };
+        let mut source = StdSource::new(alloc, reader)?;
         let (read, faults) = all_of(alloc, &mut source)?;
         assert!(rt; read == bytes, "with a fault at {fails}");
         assert_eq!(rt;
@@ -92,7 +90,7 @@ fn a_source_hands_on_what_is_read(rt: HostRuntime) -> Result<(), Fail> {
 fn a_sink_hands_down_what_is_written(rt: HostRuntime) -> Result<(), Fail> {
     let alloc = rt.alloc();
     let bytes = numbered(alloc)?;
-    let frame = Text::new(alloc, bytes.as_slice()).map_err(|_| "memory")?;
+    let frame = Text::new(alloc, bytes.as_slice())?;
     for fails in [usize::MAX, 0, 6, 9] {
         let mut held = Vec::new(alloc);
         let mut sink = StdSink::new(OddWriter {

@@ -6,10 +6,7 @@ use std::test::Fail;
 #[test]
 fn replies(rt: HostRuntime) -> Result<(), Fail> {
     let alloc = rt.alloc();
-    let Ok(cases) = cases(alloc) else {
-        return Err(Fail::from("memory"));
-    };
-    for (id, out, wanted) in cases {
+    for (id, out, wanted) in cases(alloc)? {
         let reply = Reply {
             message: 0,
             mark: 1,
@@ -17,19 +14,12 @@ fn replies(rt: HostRuntime) -> Result<(), Fail> {
             id,
             out,
         };
-        let Ok(text) = reply_text(alloc, &reply) else {
-            return Err(Fail::from("memory"));
-        };
+        let text = reply_text(alloc, &reply)?;
         let told = str::from_utf8(text.bytes()).unwrap_or("no text");
         assert!(rt; told == wanted, "{told}");
     }
-    let Ok(word) = Text::new(alloc, b"a") else {
-        return Err(Fail::from("memory"));
-    };
-    let word = Id::Text(word);
-    let Ok(copy) = word.duplicate(alloc) else {
-        return Err(Fail::from("memory"));
-    };
+    let word = Id::Text(Text::new(alloc, b"a")?);
+    let copy = word.duplicate(alloc)?;
     assert!(rt; copy.same(&word));
     assert!(rt; !Id::Number(1).same(&word));
     Ok(())

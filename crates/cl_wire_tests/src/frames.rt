@@ -89,15 +89,15 @@ fn frames_of_sessions(rt: HostRuntime) -> Result<(), Fail> {
         (two, 1, [26], "hello, failed, failed, failed, 26"),
     ] {
         let source = MemorySource::new(alloc, input.as_bytes(), piece, fails.as_slice());
-        let mut source = source.map_err(|_| "memory")?;
-        let answers = told(alloc, &mut source).map_err(|_| "memory")?;
+        let mut source = source?;
+        let answers = told(alloc, &mut source)?;
         assert_eq!(rt; answers.as_str(), want, "of {input}");
         let count = input.len().saturating_sub(source.rest().len());
         let end = format!(in alloc; ", {count}")?;
         assert!(rt; want.ends_with(end.as_str()), "what is left of {input}");
     }
-    let mut source = StdSource::new(alloc, two.as_bytes()).map_err(|_| "memory")?;
-    let answers = told(alloc, &mut source).map_err(|_| "memory")?;
+    let mut source = StdSource::new(alloc, two.as_bytes())?;
+    let answers = told(alloc, &mut source)?;
     assert_eq!(rt; answers.as_str(), "hello, {}, end, end, 49");
     Ok(())
 }
@@ -105,13 +105,13 @@ fn frames_of_sessions(rt: HostRuntime) -> Result<(), Fail> {
 #[test]
 fn frames_written(rt: HostRuntime) -> Result<(), Fail> {
     let alloc = rt.alloc();
-    let text = Text::new(alloc, b"hello".as_slice()).map_err(|_| "memory")?;
+    let text = Text::new(alloc, b"hello".as_slice())?;
     for (fails, want, held) in [
         (9, Written::All, "hello"),
         (1, Written::Failed { taken: 3 }, "hel"),
         (0, Written::Failed { taken: 0 }, ""),
     ] {
-        let mut sink = MemorySink::new(alloc, 3, [fails].as_slice()).map_err(|_| "memory")?;
+        let mut sink = MemorySink::new(alloc, 3, [fails].as_slice())?;
         assert_eq!(rt; write_frame(&mut sink, &text), want);
         assert!(rt; sink.held() == held.as_bytes());
     }
