@@ -5,6 +5,7 @@ use Rattle.std.specs.Prelude.{Option, Some, None, is_some, not, reverse, ◌&&�
 use Rattle.cl_base.specs.declared.headers.Read.{Read}
 use Rattle.cl_headers.specs.Headers.{Headers}
 use Rattle.cl_query.specs.declared.job.Job.{Job}
+use Rattle.cl_query.specs.declared.seen.Dep.{Dep}
 use Rattle.cl_rpc.specs.declared.out.How.{How}
 use Rattle.cl_rpc.specs.declared.out.Out.{Out}
 use Rattle.cl_rpc.specs.Classes.{Class, exits, class_of}
@@ -21,7 +22,7 @@ use Rattle.cl_core.specs.declared.event.Effect.TheVariants as effect
 use Rattle.cl_core.specs.declared.waiting.Waiting.{Waiting}
 use Rattle.cl_core.specs.Waiting.{number_of}
 use Rattle.cl_core.specs.Deciding.{replies_of, started_by}
-use Rattle.cl_core.specs.Steps.{Takes, Completes, StartsAgain, Awaits, Needs, Loads, IsStale, IsLost, Stops, Steps, StepsOn, begun_again, finish_if, first_ending, hears, status_of, ending_after, left_after, pending_after, is_nil, is_exit, is_accepted, start_jobs, awaited_message}
+use Rattle.cl_core.specs.Steps.{Takes, Completes, StartsAgain, Awaits, Lacks, Loads, IsLost, Stops, Steps, StepsOn, begun_again, finish_if, first_ending, hears, status_of, ending_after, left_after, pending_after, is_nil, is_exit, is_accepted, start_jobs, awaited_message}
 use Rattle.cl_core.specs.Standing.{IsIdle, StandsFor, finish_of, journal_of}
 use Rattle.cl_core.specs.Runs.{Put, TakesPut, Runs}
 use Rattle.cl_core.specs.Ends.{status_by, status_by_class, status_of_put, earlier_or, first_status, over, EndsAs, EndsOnce}
@@ -148,12 +149,12 @@ message_moves old new k effects shut_down goes_on is_shut takes =
     (finish_after_replies (replies_of old k) (start_jobs (started_by old k)) ∙ no_finish_of_jobs (started_by old k))
     (takes.effects_are ∙ sym (append_assoc (map effect.Reply (replies_of old k)) (start_jobs (started_by old k)) (finish_if (ending_after old k) (is_nil (pending_after old k)))))
 
-job_moves : (old new : Core) (job : Job) (mark : ℕ) (h : How) (o : Out) (effects : List Effect) → over_of old ≡ None → old.finished ≡ is_some (over_of old) → Completes old job mark h o new effects
+job_moves : (old new : Core) (worked : Job) (seen : List Dep) (mark : ℕ) (h : How) (o : Out) (effects : List Effect) → over_of old ≡ None → old.finished ≡ is_some (over_of old) → Completes old worked seen mark h o new effects
     → Moves old new None effects
-job_moves old new job mark h o effects goes_on finished c = ⊎_elim
-    (λ r. moves_as old new None old.ending (left_after old job.message) (effect.Reply _ ∷ []) effects goes_on
+job_moves old new worked seen mark h o effects goes_on finished c = ⊎_elim
+    (λ r. moves_as old new None old.ending (left_after old r.waiting.job.message) (effect.Reply _ ∷ []) effects goes_on
     (ap (λ (core : Core). core.pending) r.new_is) (ap (λ (core : Core). core.ending) r.new_is) (sym (or_none old.ending))
-    (ap (λ (core : Core). core.finished) r.new_is ∙ some_over (is_nil (left_after old job.message)) old.ending) refl r.effects_are)
+    (ap (λ (core : Core). core.finished) r.new_is ∙ some_over (is_nil (left_after old r.waiting.job.message)) old.ending) refl r.effects_are)
     (λ q. moves_not old new effects q.same finished q.none)
     c
 
@@ -161,10 +162,10 @@ nil_again : (m number mark : ℕ) (headers : Headers) (ws : List Waiting) → is
 nil_again m number mark headers [] = refl
 nil_again m number mark headers (w ∷ ws) = refl
 
-need_moves : (old new : Core) (job : Job) (path : List ℕ) (effects : List Effect) → over_of old ≡ None → old.finished ≡ is_some (over_of old) → Needs old job path new effects ⊎ IsStale old job new effects
+need_moves : (old new : Core) (worked : Job) (seen : List Dep) (path : List ℕ) (effects : List Effect) → over_of old ≡ None → old.finished ≡ is_some (over_of old) → Lacks old worked seen path new effects
     → Moves old new None effects
-need_moves old new job path effects goes_on finished c = ⊎_elim
-    (λ r. by_known _ (StartsAgain old job new effects) (Awaits old job path new effects) (Moves old new None effects) r.so
+need_moves old new worked seen path effects goes_on finished c = ⊎_elim
+    (λ r. by_known _ (StartsAgain old r.waiting.job new effects) (Awaits old r.waiting.job path new effects) (Moves old new None effects) r.so
     (λ a. moves_on_as old new effects goes_on
     (ap over_of a.new_is ∙ ap (λ (b : Bool). if b then old.ending else None) (nil_again _ _ _ _ old.pending))
     (ap (λ (core : Core). core.ending) a.new_is) (ap (λ (core : Core). core.finished) a.new_is) finished (ap finish_of a.effects_are))
@@ -190,9 +191,9 @@ moves_on : (old new : Core) (e : Event) (effects : List Effect) (shut_down : Boo
     → StepsOn old e new effects → Moves old new (status_by shut_down e) effects
 moves_on old new (event.Message p) effects shut_down goes_on finished is_shut takes = message_moves old new (class_of p) effects shut_down goes_on is_shut takes
 moves_on old new (event.Loaded path read) effects shut_down goes_on finished is_shut c = load_moves old new (awaited_message old) path read effects goes_on finished c
-moves_on old new (event.Done done) effects shut_down goes_on finished is_shut c = job_moves old new done.job _ _ _ effects goes_on finished c
-moves_on old new (event.Need need) effects shut_down goes_on finished is_shut c = need_moves old new need.job need.path effects goes_on finished c
-moves_on old new (event.NoMemory job) effects shut_down goes_on finished is_shut c = job_moves old new job _ _ _ effects goes_on finished c
+moves_on old new (event.Done done) effects shut_down goes_on finished is_shut c = job_moves old new done.job done.seen _ _ _ effects goes_on finished c
+moves_on old new (event.Need need) effects shut_down goes_on finished is_shut c = need_moves old new need.job need.seen need.path effects goes_on finished c
+moves_on old new (event.NoMemory job) effects shut_down goes_on finished is_shut c = job_moves old new job [] _ _ _ effects goes_on finished c
 moves_on old new (event.End e) effects shut_down goes_on finished is_shut stops = end_moves old new e effects shut_down goes_on stops
 
 -- an event that is heard comes to a session that isn't over

@@ -13,7 +13,9 @@ use Rattle.cl_rpc.specs.declared.out.How.{How}
 use Rattle.cl_rpc.specs.declared.out.How.TheVariants as how
 use Rattle.cl_rpc.specs.declared.out.Out.{Out}
 use Rattle.cl_query.specs.declared.job.Job.{Job}
+use Rattle.cl_query.specs.declared.seen.Dep.{Dep}
 use Rattle.cl_query.specs.AnswerOf.{NeedsOf}
+use Rattle.cl_query.specs.Over.{IsOver}
 use Rattle.cl_history.specs.declared.entry.Entry.{Entry}
 use Rattle.cl_history.specs.declared.entry.Entry.TheVariants as entry
 use Rattle.cl_history.specs.Given.{Given}
@@ -26,7 +28,7 @@ use Rattle.cl_core.specs.declared.event.Ending.{Ending}
 use Rattle.cl_core.specs.declared.event.Effect.{Effect}
 use Rattle.cl_core.specs.declared.waiting.Waiting.{Waiting}
 use Rattle.cl_core.specs.Waiting.{number_of}
-use Rattle.cl_core.specs.Steps.{Replies, Completes, Stops, StartsAgain, Awaits, Needs, Loads, IsStale, IsLost, again, begun_again, replied}
+use Rattle.cl_core.specs.Steps.{Replies, Completes, Stops, StartsAgain, Awaits, Lacks, Loads, IsLost, again, begun_again, replied}
 use Rattle.cl_core.specs.Standing.{past_of, Asks, AwaitsSo, StandsAt, StandsFor}
 use Rattle.cl_core.proofs.Onto.{past_kept_one, past_whole}
 use Rattle.cl_core.proofs.Waits.{messages_left, contains_as, one_of, all_left}
@@ -89,12 +91,11 @@ may_answer given core w mark how.Refused s waits is = absurd is
 may_answer given core w mark how.Cancelled s waits is = absurd is
 may_answer given core w mark how.Modified s waits is = absurd is
 
-reply_stands : (given : Given) (old new : Core) (job : Job) (mark : ℕ) (h : How) (o : Out) (effects : List Effect)
-    → StandsFor given old → old.awaited ≡ None → IsGiven old job mark h → Replies old job mark h o new effects → StandsFor given new
-reply_stands given old new job mark h o effects s none is r =
-    let may : MayAnswer given (past_of old) job.message mark h =
-    subst (λ (j : Job). MayAnswer given (past_of old) j.message mark h) r.same_job
-    (may_answer given old r.waiting mark h s r.waits (subst (λ (j : Job). IsGiven old j mark h) (sym r.same_job) is)) in
+reply_stands : (given : Given) (old new : Core) (worked : Job) (seen : List Dep) (mark : ℕ) (h : How) (o : Out) (effects : List Effect)
+    → StandsFor given old → old.awaited ≡ None → ((job : Job) → IsOver worked seen job → IsGiven old job mark h) → Replies old worked seen mark h o new effects → StandsFor given new
+reply_stands given old new worked seen mark h o effects s none is r =
+    let job = r.waiting.job in
+    let may : MayAnswer given (past_of old) job.message mark h = may_answer given old r.waiting mark h s r.waits (is job r.over) in
     let follows : MayReply given (past_of old) (owed given (past_of old)) job.message mark h =
     subst (λ (due : List Due). MayReply given (past_of old) due job.message mark h) (sym s.none_due) may in
     subst (StandsFor given) (sym r.new_is) (subst (StandsAt given (replied old job mark h)) (sym (past_with old.journal (entry.Reply job.message mark h))) (record {
@@ -118,10 +119,10 @@ reply_stands given old new job mark h o effects s none is r =
 pub same_stands : (given : Given) (old new : Core) → new ≡ old → StandsFor given old → StandsFor given new
 same_stands given old new e s = subst (StandsFor given) (sym e) s
 
-pub job_stands : (given : Given) (old new : Core) (job : Job) (mark : ℕ) (h : How) (o : Out) (effects : List Effect)
-    → StandsFor given old → old.awaited ≡ None → IsGiven old job mark h → Completes old job mark h o new effects → StandsFor given new
-job_stands given old new job mark h o effects s none is c =
-    ⊎_elim (λ r. reply_stands given old new job mark h o effects s none is r) (λ q. same_stands given old new q.same s) c
+pub job_stands : (given : Given) (old new : Core) (worked : Job) (seen : List Dep) (mark : ℕ) (h : How) (o : Out) (effects : List Effect)
+    → StandsFor given old → old.awaited ≡ None → ((job : Job) → IsOver worked seen job → IsGiven old job mark h) → Completes old worked seen mark h o new effects → StandsFor given new
+job_stands given old new worked seen mark h o effects s none is c =
+    ⊎_elim (λ r. reply_stands given old new worked seen mark h o effects s none is r) (λ q. same_stands given old new q.same s) c
 
 -- ---- a job that begins again
 
@@ -184,15 +185,15 @@ unknown_by : (o : Option Known) → is_some o ≡ false → o ≡ None
 unknown_by None e = refl
 unknown_by (Some k) e = absurd (cc)
 
-awaits_stands : (given : Given) (old new : Core) (job : Job) (path : List ℕ) (effects : List Effect) (w : Waiting) → StandsFor given old → Contains old.pending w → w.job ≡ job
-    → NeedsOf job.kind job.config job.headers job.path job.text path → known_at old.headers path ≡ None → Awaits old job path new effects → StandsFor given new
-awaits_stands given old new job path effects w s waits same needs_it is_unknown r =
-    let x : Awaited = record { message = job.message; path = path } in
+awaits_stands : (given : Given) (old new : Core) (path : List ℕ) (effects : List Effect) (w : Waiting) → StandsFor given old → Contains old.pending w
+    → NeedsOf w.job.kind w.job.config w.job.headers w.job.path w.job.text path → known_at old.headers path ≡ None → Awaits old w.job path new effects → StandsFor given new
+awaits_stands given old new path effects w s waits needs_it is_unknown r =
+    let x : Awaited = record { message = w.job.message; path = path } in
     let here : AwaitsSo (record old { awaited = Some x }) x = record {
       waiting = w;
       waits = waits;
-      works_for = ap (λ (j : Job). j.message) same;
-      needs_it = subst (λ (j : Job). NeedsOf j.kind j.config j.headers j.path j.text path) (sym same) needs_it;
+      works_for = refl;
+      needs_it = needs_it;
       is_unknown = is_unknown;
     } in
     subst (StandsFor given) (sym r.new_is) (record {
@@ -216,13 +217,13 @@ pub by_known : (b : Bool) (A B C : Type 0) → MatchBool b A B → (A → C) →
 by_known true A B C m f g = f m
 by_known false A B C m f g = g refl m
 
-pub need_stands : (given : Given) (old new : Core) (job : Job) (path : List ℕ) (effects : List Effect)
-    → StandsFor given old → old.awaited ≡ None → NeedsOf job.kind job.config job.headers job.path job.text path
-    → Needs old job path new effects ⊎ IsStale old job new effects → StandsFor given new
-need_stands given old new job path effects s none needs_it c = ⊎_elim
-    (λ r. by_known (is_some (known_at old.headers path)) (StartsAgain old job new effects) (Awaits old job path new effects) (StandsFor given new) r.so
-    (λ restarts. starts_again_stands given old new job effects s none restarts)
-    (λ e awaits. awaits_stands given old new job path effects r.waiting s r.waits r.same_job needs_it (unknown_by (known_at old.headers path) e) awaits))
+pub need_stands : (given : Given) (old new : Core) (worked : Job) (seen : List Dep) (path : List ℕ) (effects : List Effect)
+    → StandsFor given old → old.awaited ≡ None → ((job : Job) → IsOver worked seen job → NeedsOf job.kind job.config job.headers job.path job.text path)
+    → Lacks old worked seen path new effects → StandsFor given new
+need_stands given old new worked seen path effects s none needs_it c = ⊎_elim
+    (λ r. by_known (is_some (known_at old.headers path)) (StartsAgain old r.waiting.job new effects) (Awaits old r.waiting.job path new effects) (StandsFor given new) r.so
+    (λ restarts. starts_again_stands given old new r.waiting.job effects s none restarts)
+    (λ e awaits. awaits_stands given old new path effects r.waiting s r.waits (needs_it r.waiting.job r.over) (unknown_by (known_at old.headers path) e) awaits))
     (λ q. same_stands given old new q.same s)
     c
 

@@ -7,6 +7,8 @@ use Rattle.std.specs.List.{AllByRecursion}
 use Rattle.cl_base.specs.declared.headers.Read.{Read}
 use Rattle.cl_headers.specs.Headers.{Headers}
 use Rattle.cl_query.specs.declared.job.Job.{Job}
+use Rattle.cl_query.specs.declared.seen.Dep.{Dep}
+use Rattle.cl_query.specs.Over.{IsOver}
 use Rattle.cl_rpc.specs.declared.out.How.{How}
 use Rattle.cl_rpc.specs.declared.out.Out.{Out}
 use Rattle.cl_rpc.specs.Classes.{Class, class_of}
@@ -20,7 +22,7 @@ use Rattle.cl_core.specs.declared.event.Event.TheVariants as event
 use Rattle.cl_core.specs.declared.waiting.Waiting.{Waiting}
 use Rattle.cl_core.specs.Waiting.{number_of}
 use Rattle.cl_core.specs.Deciding.{left_by, started_by}
-use Rattle.cl_core.specs.Steps.{Takes, Completes, StartsAgain, Awaits, Needs, Loads, IsStale, IsLost, Steps, StepsOn, again, with_again, left_after, hears, is_awaited, awaited_message}
+use Rattle.cl_core.specs.Steps.{Takes, Completes, StartsAgain, Awaits, Lacks, Loads, IsLost, Steps, StepsOn, again, with_again, left_after, hears, is_awaited, awaited_message}
 use Rattle.cl_core.specs.Standing.{IsIdle, StandsFor, awaits_read, jobs_of, loads_of, journal_of}
 use Rattle.cl_core.specs.Runs.{Put, Runs}
 use Rattle.cl_core.specs.Jobs.{IsOut, IsEndOf, HasOneOut, LedToRead, EachHasOneOut}
@@ -161,22 +163,27 @@ message_holds put past old new k holds none takes spares =
 
 -- ---- the end of a job
 
-other_number : (w : Waiting) (job : Job) → not (nat_eq w.job.message job.message) ≡ true → job ≡ w.job → ⊥
-other_number w job off same = absurd (false≢true (sym (ap not (eq-eqb w.job.message job.message (sym (ap (λ (j : Job). j.message) same)))) ∙ off))
+other_number : (m n : ℕ) → not (nat_eq n m) ≡ true → m ≡ n → ⊥
+other_number m n off same = absurd (false≢true (sym (ap not (eq-eqb n m (sym same))) ∙ off))
 
-end_holds : (put : Put) (past : List Put) (old new : Core) (job : Job) (mark : ℕ) (h : How) (o : Out) → Holds past old → old.awaited ≡ None → Completes old job mark h o new put.effects
-    → ((other : Job) → IsEndOf put.event other → job ≡ other) → Holds (put ∷ past) new
-end_holds put past old new job mark h o holds none c ends =
-    let quiet = no_jobs old new job mark h o put.effects c in
+-- work on a job is work on jobs of its message alone
+of_message : (worked : Job) (seen : List Dep) (one other : Job) → IsOver worked seen one → IsOver worked seen other → one.message ≡ other.message
+of_message worked seen one other a b = sym (ap (λ (j : Job). j.message) a.same) ∙ ap (λ (j : Job). j.message) b.same
+
+end_holds : (put : Put) (past : List Put) (old new : Core) (worked : Job) (seen : List Dep) (mark : ℕ) (h : How) (o : Out) → Holds past old → old.awaited ≡ None → Completes old worked seen mark h o new put.effects
+    → ((other : Job) → IsEndOf put.event other → IsOver worked seen other) → Holds (put ∷ past) new
+end_holds put past old new worked seen mark h o holds none c ends =
+    let quiet = no_jobs old new worked seen mark h o put.effects c in
     ⊎_elim
     (λ r.
+    let job = r.waiting.job in
     holds_free (put ∷ past) new old.messages (left_after old job.message) (ap (λ (core : Core). core.awaited) r.new_is ∙ none)
     (ap (λ (core : Core). core.messages) r.new_is) (ap (λ (core : Core). core.pending) r.new_is)
     (λ other out. ⊎_elim (λ g. absurd (none_in (jobs_of put.effects) other quiet g)) (λ q. holds.below other q.0) out)
     (weaker (λ w. Free past old.messages w × (not (nat_eq w.job.message job.message) ≡ true)) (Free (put ∷ past) old.messages) (left_after old job.message)
-    (λ w q. (kept_only put past w.job q.0.0 (λ taken heard e. other_number w job q.1 (ends w.job e)) (λ other same g. none_in (jobs_of put.effects) other quiet g), q.0.1))
+    (λ w q. (kept_only put past w.job q.0.0 (λ taken heard e. other_number job.message w.job.message q.1 (of_message worked seen job w.job r.over (ends w.job e))) (λ other same g. none_in (jobs_of put.effects) other quiet g), q.0.1))
     (passing (Free past old.messages) (λ w. not (nat_eq w.job.message job.message)) old.pending (free_each past old none holds))))
-    (λ q. quiet_holds put past old new q.same q.none (λ w among taken heard e. q.not_out w among (sym (ends w.job e))) holds)
+    (λ q. quiet_holds put past old new q.same q.none (λ w among taken heard e. q.not_out w among (ends w.job e)) holds)
     c
 
 -- ---- a job that begins again
@@ -205,19 +212,21 @@ again_by false put past n m number mark headers job w is started number_is its o
 
 -- ---- a need
 
-need_holds : (put : Put) (past : List Put) (old new : Core) (job : Job) (path : List ℕ) → Holds past old → old.awaited ≡ None → put.taken ≡ true → put.heard ≡ true
-    → Needs old job path new put.effects ⊎ IsStale old job new put.effects → ((other : Job) → IsEndOf put.event other → job ≡ other) → IsEndOf put.event job → Holds (put ∷ past) new
-need_holds put past old new job path holds none taken heard c ends ended = ⊎_elim
+need_holds : (put : Put) (past : List Put) (old new : Core) (worked : Job) (seen : List Dep) (path : List ℕ) → Holds past old → old.awaited ≡ None → put.taken ≡ true → put.heard ≡ true
+    → Lacks old worked seen path new put.effects → ((other : Job) → IsEndOf put.event other → IsOver worked seen other) → ((other : Job) → IsOver worked seen other → IsEndOf put.event other) → Holds (put ∷ past) new
+need_holds put past old new worked seen path holds none taken heard c ends is_end = ⊎_elim
     (λ r.
+    let job = r.waiting.job in
+    let ended : IsEndOf put.event job = is_end job r.over in
     let free = free_each past old none holds in
     let its : Free past old.messages r.waiting = one_of (Free past old.messages) old.pending r.waiting free r.waits in
-    let only : IsOnly past job = subst (IsOnly past) r.same_job its.0 in
+    let only : IsOnly past job = its.0 in
     let mine : (w : Waiting) → Free past old.messages w → nat_eq w.job.message job.message ≡ true → w.job ≡ job =
     λ w f e. only.1 w.job (eqb-true w.job.message job.message e) f.0.0 in
     let gone : (other : Job) → other.message ≡ job.message → IsOut past other → Spares put other → ⊥ =
     λ other same out spares. spares taken heard (subst (IsEndOf put.event) (sym (only.1 other same out)) ended) in
     let apart : (w : Waiting) → nat_eq w.job.message job.message ≡ false → Spares put w.job =
-    λ w is t h e. eqb-false w.job.message job.message is (sym (ap (λ (j : Job). j.message) (ends w.job e))) in
+    λ w is t h e. eqb-false w.job.message job.message is (sym (of_message worked seen job w.job r.over (ends w.job e))) in
     by_known _ (StartsAgain old job new put.effects) (Awaits old job path new put.effects) (Holds (put ∷ past) new) r.so
     (λ a.
     let started : jobs_of put.effects ≡ again old.jobs (length old.journal) old.headers job ∷ [] = ap jobs_of a.effects_are in
@@ -245,7 +254,7 @@ need_holds put past old new job path holds none taken heard c ends ended = ⊎_e
         (job, ended, message_of b (record { message = job.message; path = path }) some),
       );
     })))
-    (λ q. quiet_holds put past old new q.same q.none (λ w among t h e. q.not_out w among (sym (ends w.job e))) holds)
+    (λ q. quiet_holds put past old new q.same q.none (λ w among t h e. q.not_out w among (ends w.job e)) holds)
     c
   where
     message_of : (b x : Awaited) → ◌≡◌ {A = Option Awaited} (Some x) (Some b) → x.message ≡ b.message
@@ -309,11 +318,11 @@ event_holds (event.Loaded path read) put past old new is hears taken heard holds
     load_holds put past old new one.0 path read holds one.1 (subst (λ (m : ℕ). Loads old m path read new put.effects ⊎ IsLost old m new put.effects) number c)
     (λ job t h e. subst (λ (some : Event). IsEndOf some job) is e)
 event_holds (event.Done done) put past old new is hears taken heard holds c =
-    end_holds put past old new done.job _ _ _ holds (none_awaited old (event.Done done) tt hears) c (λ other e. subst (λ (some : Event). IsEndOf some other) is e)
+    end_holds put past old new done.job done.seen _ _ _ holds (none_awaited old (event.Done done) tt hears) c (λ other e. subst (λ (some : Event). IsEndOf some other) is e)
 event_holds (event.Need need) put past old new is hears taken heard holds c =
-    need_holds put past old new need.job need.path holds (none_awaited old (event.Need need) tt hears) taken heard c (λ other e. subst (λ (some : Event). IsEndOf some other) is e) (subst (λ (some : Event). IsEndOf some need.job) (sym is) refl)
+    need_holds put past old new need.job need.seen need.path holds (none_awaited old (event.Need need) tt hears) taken heard c (λ other e. subst (λ (some : Event). IsEndOf some other) is e) (λ other e. subst (λ (some : Event). IsEndOf some other) (sym is) e)
 event_holds (event.NoMemory job) put past old new is hears taken heard holds c =
-    end_holds put past old new job _ _ _ holds (none_awaited old (event.NoMemory job) tt hears) c (λ other e. subst (λ (some : Event). IsEndOf some other) is e)
+    end_holds put past old new job [] _ _ _ holds (none_awaited old (event.NoMemory job) tt hears) c (λ other e. subst (λ (some : Event). IsEndOf some other) is e)
 event_holds (event.End e) put past old new is hears taken heard holds stops =
     let none = none_awaited old (event.End e) tt hears in
     let quiet = no_jobs_at_end old new e put.effects stops in

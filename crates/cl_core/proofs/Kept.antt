@@ -1,9 +1,15 @@
 -- What each step keeps.
-use Rattle.std.proofs.Common.{◌≡◌, ℕ, List, length, Bool, true, false, MatchBool, refl, sym, ap}
+use Rattle.std.proofs.Common.{◌≡◌, ℕ, List, [], length, Bool, true, false, MatchBool, refl, sym, ap, subst}
 use Rattle.std.specs.Prelude.{Option, Some, None, ◌&&◌, not, option_map, unwrap_or}
 use Rattle.std.specs.Str.{bytes_eq}
 use Rattle.std.proofs.lemmas.Bool.{false≢true}
+use Rattle.cl_base.specs.declared.answer.Answer.{Answer}
 use Rattle.cl_base.specs.declared.headers.Read.{Read}
+use Rattle.cl_query.specs.declared.job.Job.{Job}
+use Rattle.cl_query.specs.declared.seen.Dep.{Dep}
+use Rattle.cl_query.specs.AnswerOf.{AnswerOf, NeedsOf}
+use Rattle.cl_query.specs.Seen.{NeedRests, Rests}
+use Rattle.cl_query.specs.Over.{IsOver}
 use Rattle.cl_rpc.specs.declared.out.How.TheVariants as how
 use Rattle.cl_rpc.specs.declared.out.Out.TheVariants as out
 use Rattle.cl_rpc.specs.Classes.{class_of}
@@ -52,6 +58,21 @@ some_by : (o : Option Awaited) (path : List ℕ) (read : Read) → is_awaited o 
 some_by None path read heard = absurd (false≢true heard)
 some_by (Some a) path read heard = (a, refl, heard)
 
+-- ---- work on a job is work on the one that is out
+
+mark_of : (worked : Job) (seen : List Dep) (job : Job) → IsOver worked seen job → worked.mark ≡ job.mark
+mark_of worked seen job over = ap (λ (j : Job). j.mark) over.same
+
+answers_over : (worked : Job) (seen : List Dep) (job : Job) (answer : Answer) → IsOver worked seen job → Rests worked.kind worked.config seen worked.path worked.text answer
+    → AnswerOf job.kind job.config job.headers job.path job.text answer
+answers_over worked seen job answer over rests =
+    subst (λ (j : Job). AnswerOf j.kind j.config job.headers j.path j.text answer) over.same (rests job.headers over.agrees)
+
+needs_over : (worked : Job) (seen : List Dep) (job : Job) (path : List ℕ) → IsOver worked seen job → NeedRests worked.kind worked.config seen worked.path worked.text path
+    → NeedsOf job.kind job.config job.headers job.path job.text path
+needs_over worked seen job path over rests =
+    subst (λ (j : Job). NeedsOf j.kind j.config job.headers j.path j.text path) over.same (rests job.headers over.agrees)
+
 -- ---- a step
 
 pub by_hearing : (b : Bool) (P Q R : Type 0) → MatchBool b P Q → (b ≡ true → P → R) → (Q → R) → R
@@ -69,10 +90,11 @@ stands_on given old new (event.Loaded path read) effects heard next s c =
     let one = some_by old.awaited path read (second (not old.finished) (is_awaited old.awaited (event.Loaded path read)) heard) in
     load_stands given old new (awaited_message old) path read effects one.0 next s one.1 (sym (ap (λ (o : Option Awaited). unwrap_or (option_map (λ (a : Awaited). a.message) o) 0) one.1)) one.2 c
 stands_on given old new (event.Done done) effects heard next s c =
-    job_stands given old new done.job done.job.mark how.Answered (out.Answer done.answer) effects s (none_awaited old (event.Done done) tt heard) refl c
-stands_on given old new (event.Need need) effects heard next s c = need_stands given old new need.job need.path effects s (none_awaited old (event.Need need) tt heard) need.valid c
+    job_stands given old new done.job done.seen done.job.mark how.Answered (out.Answer done.answer) effects s (none_awaited old (event.Done done) tt heard) (λ job over. mark_of done.job done.seen job over) c
+stands_on given old new (event.Need need) effects heard next s c = 
+    need_stands given old new need.job need.seen need.path effects s (none_awaited old (event.Need need) tt heard) (λ job over. needs_over need.job need.seen job need.path over need.valid) c
 stands_on given old new (event.NoMemory job) effects heard next s c =
-    job_stands given old new job (length old.journal) how.Memory (out.Error out_of_memory) effects s (none_awaited old (event.NoMemory job) tt heard) refl c
+    job_stands given old new job [] (length old.journal) how.Memory (out.Error out_of_memory) effects s (none_awaited old (event.NoMemory job) tt heard) (λ other over. refl) c
 stands_on given old new (event.End e) effects heard next s stops = stop_stands given old new e effects s stops
 
 pub step_stands : (given : Given) (old new : Core) (e : Event) (effects : List Effect)
@@ -86,9 +108,10 @@ writes_on : (given : Given) (old new : Core) (e : Event) (effects : List Effect)
 writes_on given old new (event.Message p) effects next s takes = message_writes given old new (class_of p) effects (said_is given old.messages p next) s takes
 writes_on given old new (event.Loaded path read) effects next s c = load_writes given old new (awaited_message old) path read effects c
 writes_on given old new (event.Done done) effects next s c =
-    job_writes given old new done.job done.job.mark how.Answered (out.Answer done.answer) effects s refl (done.answer, done.valid, refl) c
-writes_on given old new (event.Need need) effects next s c = need_writes given old new need.job need.path effects c
-writes_on given old new (event.NoMemory job) effects next s c = job_writes given old new job (length old.journal) how.Memory (out.Error out_of_memory) effects s tt refl c
+    job_writes given old new done.job done.seen done.job.mark how.Answered (out.Answer done.answer) effects s
+    (λ job over. (mark_of done.job done.seen job over, (done.answer, answers_over done.job done.seen job done.answer over done.valid, refl))) c
+writes_on given old new (event.Need need) effects next s c = need_writes given old new need.job need.seen need.path effects c
+writes_on given old new (event.NoMemory job) effects next s c = job_writes given old new job [] (length old.journal) how.Memory (out.Error out_of_memory) effects s (λ other over. (tt, refl)) c
 writes_on given old new (event.End e) effects next s stops = stop_writes given old new e effects stops
 
 pub step_writes : (given : Given) (old new : Core) (e : Event) (effects : List Effect)

@@ -11,6 +11,7 @@ use Rattle.cl_rpc.specs.declared.out.How.{How}
 use Rattle.cl_rpc.specs.declared.out.Out.{Out}
 use Rattle.cl_rpc.specs.Classes.{Class, queries, class_of}
 use Rattle.cl_query.specs.declared.job.Job.{Job}
+use Rattle.cl_query.specs.declared.seen.Dep.{Dep}
 use Rattle.cl_core.specs.declared.core_state.State.{State}
 use Rattle.cl_core.specs.declared.event.Event.{Event}
 use Rattle.cl_core.specs.declared.event.Event.TheVariants as event
@@ -79,9 +80,9 @@ message_numbered old new k effects takes numbered =
 
 -- ---- a step
 
-job_numbered : (old new : State) (job : Job) (mark : ℕ) (h : How) (o : Out) (effects : List Effect) → Completes old job mark h o new effects → IsNumbered old → IsNumbered new
-job_numbered old new job mark h o effects c numbered = ⊎_elim
-    (λ r. subst IsNumbered (sym r.new_is) (kept (λ w. not (nat_eq w.job.message job.message)) old.messages old.pending numbered))
+job_numbered : (old new : State) (worked : Job) (seen : List Dep) (mark : ℕ) (h : How) (o : Out) (effects : List Effect) → Completes old worked seen mark h o new effects → IsNumbered old → IsNumbered new
+job_numbered old new worked seen mark h o effects c numbered = ⊎_elim
+    (λ r. subst IsNumbered (sym r.new_is) (kept (λ w. not (nat_eq w.job.message r.waiting.job.message)) old.messages old.pending numbered))
     (λ q. subst IsNumbered (sym q.same) numbered) c
 
 numbered_on : (old new : State) (e : Event) (effects : List Effect) → StepsOn old e new effects → IsNumbered old → IsNumbered new
@@ -89,13 +90,13 @@ numbered_on old new (event.Message p) effects takes numbered = message_numbered 
 numbered_on old new (event.Loaded path read) effects c numbered = ⊎_elim
     (λ r. subst IsNumbered (sym r.new_is) (below_again old.messages _ old.jobs (length old.journal + 1) new.headers old.pending numbered))
     (λ q. subst IsNumbered (sym q.same) numbered) c
-numbered_on old new (event.Done done) effects c numbered = job_numbered old new done.job _ _ _ effects c numbered
+numbered_on old new (event.Done done) effects c numbered = job_numbered old new done.job done.seen _ _ _ effects c numbered
 numbered_on old new (event.Need need) effects c numbered = ⊎_elim
-    (λ r. by_known _ (StartsAgain old need.job new effects) (Awaits old need.job need.path new effects) (IsNumbered new) r.so
-    (λ a. subst IsNumbered (sym a.new_is) (below_again old.messages need.job.message old.jobs (length old.journal) old.headers old.pending numbered))
+    (λ r. by_known _ (StartsAgain old r.waiting.job new effects) (Awaits old r.waiting.job need.path new effects) (IsNumbered new) r.so
+    (λ a. subst IsNumbered (sym a.new_is) (below_again old.messages r.waiting.job.message old.jobs (length old.journal) old.headers old.pending numbered))
     (λ e a. subst IsNumbered (sym a.new_is) numbered))
     (λ q. subst IsNumbered (sym q.same) numbered) c
-numbered_on old new (event.NoMemory job) effects c numbered = job_numbered old new job _ _ _ effects c numbered
+numbered_on old new (event.NoMemory job) effects c numbered = job_numbered old new job [] _ _ _ effects c numbered
 numbered_on old new (event.End e) effects stops numbered = subst IsNumbered (sym stops.same) numbered
 
 pub step_numbered : (old new : State) (e : Event) (effects : List Effect) → Steps old e new effects → IsNumbered old → IsNumbered new

@@ -5,6 +5,7 @@ use Rattle.cl_rpc.specs.declared.out.How.{How}
 use Rattle.cl_rpc.specs.declared.out.Out.{Out}
 use Rattle.cl_rpc.specs.Classes.{Class, class_of}
 use Rattle.cl_query.specs.declared.job.Job.{Job}
+use Rattle.cl_query.specs.declared.seen.Dep.{Dep}
 use Rattle.cl_history.specs.declared.entry.Entry.{Entry}
 use Rattle.cl_history.specs.declared.entry.Entry.TheVariants as entry
 use Rattle.cl_history.specs.Given.{Given}
@@ -36,10 +37,10 @@ message_settles given old new k effects stands none_waits takes s =
 same_settles : (given : Given) (old new : Core) → past_of new ≡ past_of old → IsSettled given (past_of old) → IsSettled given (past_of new)
 same_settles given old new same s = subst (IsSettled given) (sym same) s
 
-job_settles : (given : Given) (old new : Core) (job : Job) (mark : ℕ) (h : How) (o : Out) (effects : List Effect)
-    → Completes old job mark h o new effects → IsSettled given (past_of old) → IsSettled given (past_of new)
-job_settles given old new job mark h o effects c s = ⊎_elim
-    (λ r. subst (IsSettled given) (sym (ap past_of r.new_is ∙ past_with old.journal (entry.Reply job.message mark h))) s)
+job_settles : (given : Given) (old new : Core) (worked : Job) (seen : List Dep) (mark : ℕ) (h : How) (o : Out) (effects : List Effect)
+    → Completes old worked seen mark h o new effects → IsSettled given (past_of old) → IsSettled given (past_of new)
+job_settles given old new worked seen mark h o effects c s = ⊎_elim
+    (λ r. subst (IsSettled given) (sym (ap past_of r.new_is ∙ past_with old.journal (entry.Reply r.waiting.job.message mark h))) s)
     (λ q. same_settles given old new (ap past_of q.same) s) c
 
 settles_on : (given : Given) (old new : Core) (e : Event) (effects : List Effect)
@@ -48,12 +49,12 @@ settles_on given old new (event.Message p) effects s ready takes settled = messa
 settles_on given old new (event.Loaded path read) effects s ready c settled = ⊎_elim
     (λ r. subst (IsSettled given) (sym (ap past_of r.new_is ∙ past_with old.journal (entry.Load old.loads))) settled)
     (λ q. same_settles given old new (ap past_of q.same) settled) c
-settles_on given old new (event.Done done) effects s ready c settled = job_settles given old new done.job _ _ _ effects c settled
+settles_on given old new (event.Done done) effects s ready c settled = job_settles given old new done.job done.seen _ _ _ effects c settled
 settles_on given old new (event.Need need) effects s ready c settled = ⊎_elim
-    (λ r. by_known _ (StartsAgain old need.job new effects) (Awaits old need.job need.path new effects) (IsSettled given (past_of new)) r.so
+    (λ r. by_known _ (StartsAgain old r.waiting.job new effects) (Awaits old r.waiting.job need.path new effects) (IsSettled given (past_of new)) r.so
     (λ a. same_settles given old new (ap past_of a.new_is) settled) (λ e a. same_settles given old new (ap past_of a.new_is) settled))
     (λ q. same_settles given old new (ap past_of q.same) settled) c
-settles_on given old new (event.NoMemory job) effects s ready c settled = job_settles given old new job _ _ _ effects c settled
+settles_on given old new (event.NoMemory job) effects s ready c settled = job_settles given old new job [] _ _ _ effects c settled
 settles_on given old new (event.End e) effects s ready stops settled = same_settles given old new (ap past_of stops.same) settled
 
 pub step_settles : (given : Given) (old new : Core) (e : Event) (effects : List Effect)

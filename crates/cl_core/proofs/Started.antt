@@ -10,6 +10,7 @@ use Rattle.cl_headers.specs.Headers.{Headers}
 use Rattle.cl_store.specs.declared.docs.Doc.{Doc}
 use Rattle.cl_store.specs.Docs.{doc_at}
 use Rattle.cl_query.specs.declared.job.Job.{Job}
+use Rattle.cl_query.specs.declared.seen.Dep.{Dep}
 use Rattle.cl_rpc.specs.declared.id.Id.{Id}
 use Rattle.cl_rpc.specs.declared.out.How.{How}
 use Rattle.cl_rpc.specs.declared.out.Out.{Out}
@@ -26,7 +27,7 @@ use Rattle.cl_core.specs.declared.event.Effect.{Effect}
 use Rattle.cl_core.specs.declared.waiting.Waiting.{Waiting}
 use Rattle.cl_core.specs.Waiting.{number_of}
 use Rattle.cl_core.specs.Deciding.{core_refusal, entry_of, left_by, replies_of, replies_by, started_by, started_if, waiting_for}
-use Rattle.cl_core.specs.Steps.{Takes, Completes, Stops, StartsAgain, Awaits, Needs, Loads, IsStale, IsLost, Steps, StepsOn, again, with_again, begun_again, awaited_message, first_ending, hears, is_nil, left_after, status_of}
+use Rattle.cl_core.specs.Steps.{Takes, Completes, Stops, StartsAgain, Awaits, Lacks, Loads, IsLost, Steps, StepsOn, again, with_again, begun_again, awaited_message, first_ending, hears, is_nil, left_after, status_of}
 use Rattle.cl_core.specs.Standing.{Asks, StandsFor, jobs_of, journal_of, past_of}
 use Rattle.cl_core.specs.Runs.{Put, TakesPut, Runs}
 use Rattle.cl_core.specs.Jobs.{IsStarted, AllStarted, AreNumberedFrom, jobs_so_far}
@@ -122,21 +123,21 @@ none_new new jobs none = subst (AllByRecursion (IsOfNew new)) (sym none) tt
 
 -- ---- a step
 
-pub no_jobs : (old new : Core) (job : Job) (mark : ℕ) (h : How) (o : Out) (effects : List Effect) → Completes old job mark h o new effects → jobs_of effects ≡ []
-no_jobs old new job mark h o effects c = ⊎_elim (λ r. ap jobs_of r.effects_are ∙ no_jobs_of_finish old.ending (is_nil (left_after old job.message))) (λ q. ap jobs_of q.none) c
+pub no_jobs : (old new : Core) (worked : Job) (seen : List Dep) (mark : ℕ) (h : How) (o : Out) (effects : List Effect) → Completes old worked seen mark h o new effects → jobs_of effects ≡ []
+no_jobs old new worked seen mark h o effects c = ⊎_elim (λ r. ap jobs_of r.effects_are ∙ no_jobs_of_finish old.ending (is_nil (left_after old r.waiting.job.message))) (λ q. ap jobs_of q.none) c
 
 pub no_jobs_at_end : (old new : Core) (e : Ending) (effects : List Effect) → Stops old e new effects → jobs_of effects ≡ []
 no_jobs_at_end old new e effects stops = ap jobs_of stops.effects_are ∙ no_jobs_of_finish (first_ending old.ending (status_of e)) (is_nil old.pending)
 
-need_new : (old new : Core) (job : Job) (path : List ℕ) (effects : List Effect) → Needs old job path new effects ⊎ IsStale old job new effects → AllByRecursion (IsOfNew new) (jobs_of effects)
-need_new old new job path effects c = ⊎_elim
-    (λ r. by_known _ (StartsAgain old job new effects) (Awaits old job path new effects) (AllByRecursion (IsOfNew new) (jobs_of effects)) r.so
+need_new : (old new : Core) (worked : Job) (seen : List Dep) (path : List ℕ) (effects : List Effect) → Lacks old worked seen path new effects → AllByRecursion (IsOfNew new) (jobs_of effects)
+need_new old new worked seen path effects c = ⊎_elim
+    (λ r. by_known _ (StartsAgain old r.waiting.job new effects) (Awaits old r.waiting.job path new effects) (AllByRecursion (IsOfNew new) (jobs_of effects)) r.so
     (λ a.
     let same : length old.journal ≡ length new.journal = sym (ap (λ (core : Core). length core.journal) a.new_is) in
-    again_new new old.pending r.waiting job.message old.jobs old.headers (jobs_of effects)
-    (ap (λ (core : Core). core.pending) a.new_is ∙ ap (λ (n : ℕ). begun_again job.message old.jobs n old.headers old.pending) same)
-    r.waits (ap (λ (j : Job). j.message) r.same_job)
-    (ap jobs_of a.effects_are ∙ ap (λ (n : ℕ). again old.jobs n old.headers job ∷ []) same ∙ ap (λ (j : Job). again old.jobs (length new.journal) old.headers j ∷ []) (sym r.same_job)))
+    again_new new old.pending r.waiting r.waiting.job.message old.jobs old.headers (jobs_of effects)
+    (ap (λ (core : Core). core.pending) a.new_is ∙ ap (λ (n : ℕ). begun_again r.waiting.job.message old.jobs n old.headers old.pending) same)
+    r.waits refl
+    (ap jobs_of a.effects_are ∙ ap (λ (n : ℕ). again old.jobs n old.headers r.waiting.job ∷ []) same))
     (λ e a. none_new new (jobs_of effects) (ap jobs_of a.effects_are)))
     (λ q. none_new new (jobs_of effects) (ap jobs_of q.none)) c
 
@@ -154,9 +155,9 @@ load_new old new message path read effects c = ⊎_elim
 new_on : (old new : Core) (e : Event) (effects : List Effect) → StepsOn old e new effects → AllByRecursion (IsOfNew new) (jobs_of effects)
 new_on old new (event.Message p) effects takes = message_new old new (class_of p) effects takes
 new_on old new (event.Loaded path read) effects c = load_new old new (awaited_message old) path read effects c
-new_on old new (event.Done done) effects c = none_new new (jobs_of effects) (no_jobs old new done.job _ _ _ effects c)
-new_on old new (event.Need need) effects c = need_new old new need.job need.path effects c
-new_on old new (event.NoMemory job) effects c = none_new new (jobs_of effects) (no_jobs old new job _ _ _ effects c)
+new_on old new (event.Done done) effects c = none_new new (jobs_of effects) (no_jobs old new done.job done.seen _ _ _ effects c)
+new_on old new (event.Need need) effects c = need_new old new need.job need.seen need.path effects c
+new_on old new (event.NoMemory job) effects c = none_new new (jobs_of effects) (no_jobs old new job [] _ _ _ effects c)
 new_on old new (event.End e) effects stops = none_new new (jobs_of effects) (no_jobs_at_end old new e effects stops)
 
 by_taking : (b : Bool) (S D C : Type 0) → MatchBool b S D → (S → C) → (D → C) → C
@@ -225,15 +226,15 @@ numbers_on old new (event.Loaded path read) effects c = ⊎_elim
     (λ r. one_numbered old new _ (jobs_of effects) (ap (λ (core : Core). core.jobs) r.new_is) refl (ap jobs_of r.effects_are))
     (λ q. none_numbered old new (jobs_of effects) (ap (λ (core : Core). core.jobs) q.same) (ap jobs_of q.none)) c
 numbers_on old new (event.Done done) effects c = ⊎_elim
-    (λ r. none_numbered old new (jobs_of effects) (ap (λ (core : Core). core.jobs) r.new_is) (no_jobs old new done.job _ _ _ effects c))
+    (λ r. none_numbered old new (jobs_of effects) (ap (λ (core : Core). core.jobs) r.new_is) (no_jobs old new done.job done.seen _ _ _ effects c))
     (λ q. none_numbered old new (jobs_of effects) (ap (λ (core : Core). core.jobs) q.same) (ap jobs_of q.none)) c
 numbers_on old new (event.Need need) effects c = ⊎_elim
-    (λ r. by_known _ (StartsAgain old need.job new effects) (Awaits old need.job need.path new effects) (Numbers old new (jobs_of effects)) r.so
+    (λ r. by_known _ (StartsAgain old r.waiting.job new effects) (Awaits old r.waiting.job need.path new effects) (Numbers old new (jobs_of effects)) r.so
     (λ a. one_numbered old new _ (jobs_of effects) (ap (λ (core : Core). core.jobs) a.new_is) refl (ap jobs_of a.effects_are))
     (λ e a. none_numbered old new (jobs_of effects) (ap (λ (core : Core). core.jobs) a.new_is) (ap jobs_of a.effects_are)))
     (λ q. none_numbered old new (jobs_of effects) (ap (λ (core : Core). core.jobs) q.same) (ap jobs_of q.none)) c
 numbers_on old new (event.NoMemory job) effects c = ⊎_elim
-    (λ r. none_numbered old new (jobs_of effects) (ap (λ (core : Core). core.jobs) r.new_is) (no_jobs old new job _ _ _ effects c))
+    (λ r. none_numbered old new (jobs_of effects) (ap (λ (core : Core). core.jobs) r.new_is) (no_jobs old new job [] _ _ _ effects c))
     (λ q. none_numbered old new (jobs_of effects) (ap (λ (core : Core). core.jobs) q.same) (ap jobs_of q.none)) c
 numbers_on old new (event.End e) effects stops = none_numbered old new (jobs_of effects) (ap (λ (core : Core). core.jobs) stops.same) (no_jobs_at_end old new e effects stops)
 

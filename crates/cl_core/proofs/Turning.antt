@@ -11,6 +11,9 @@ use Rattle.cl_base.specs.declared.headers.Read.{Read}
 use Rattle.cl_store.specs.declared.docs.Doc.{Doc}
 use Rattle.cl_store.specs.Docs.{doc_at}
 use Rattle.cl_query.specs.declared.job.Job.{Job}
+use Rattle.cl_query.specs.declared.seen.Dep.{Dep}
+use Rattle.cl_query.specs.Seen.{Agrees}
+use Rattle.cl_query.specs.Over.{IsOver, work_of}
 use Rattle.cl_rpc.specs.declared.id.Id.{Id}
 use Rattle.cl_rpc.specs.declared.out.How.{How}
 use Rattle.cl_rpc.specs.declared.out.Out.{Out}
@@ -30,7 +33,7 @@ use Rattle.cl_core.specs.declared.event.Effect.{Effect}
 use Rattle.cl_core.specs.declared.event.Effect.TheVariants as effect
 use Rattle.cl_core.specs.declared.waiting.Waiting.{Waiting}
 use Rattle.cl_core.specs.Deciding.{core_refusal, ends_by, others_than, replies_of, started_by, started_if, waiting_for}
-use Rattle.cl_core.specs.Steps.{Takes, Completes, Stops, StartsAgain, Awaits, Needs, Loads, IsStale, IsLost, Steps, StepsOn, hears, awaited_message, again, begun_again, start_jobs, finish, finish_if, finishes, is_nil, is_accepted, is_exit, first_ending, status_of, ending_after, left_after, pending_after}
+use Rattle.cl_core.specs.Steps.{Takes, Completes, Stops, StartsAgain, Awaits, Lacks, Loads, IsLost, Steps, StepsOn, hears, awaited_message, again, begun_again, start_jobs, finish, finish_if, finishes, is_nil, is_accepted, is_exit, first_ending, status_of, ending_after, left_after, pending_after}
 use Rattle.cl_core.specs.Standing.{jobs_of, loads_of, finish_of, IsIdle, WorksOn, AwaitsRead, TakesTurn, EndsTurn, Restarts, ReadsFirst, EndsSession, Turns, messages_taken, reads_taken}
 use Rattle.cl_core.proofs.JobStands.{by_known}
 
@@ -181,11 +184,25 @@ none_after core w job one same = rw (one, same, eq-eqb job.message job.message r
 here_one : (ws : List Waiting) (w : Waiting) → ws ≡ w ∷ [] → Contains ws w
 here_one ws w is = subst (λ (vs : List Waiting). Contains vs w) (sym is) (0, omega arith, refl)
 
-ends_turn : (old new : Core) (job : Job) (mark : ℕ) (h : How) (o : Out) (effects : List Effect)
-    → Completes old job mark h o new effects → WorksOn old job → (messages_taken new ≡ messages_taken old) × (reads_taken new ≡ reads_taken old) × EndsTurn new effects
-ends_turn old new job mark h o effects c works = ⊎_elim
+-- the only one that waits is the one that is found
+one_found : (ws : List Waiting) (w v : Waiting) → ws ≡ w ∷ [] → Contains ws v → v ≡ w
+one_found ws w v one among = found (subst (λ (us : List Waiting). Contains us v) one among)
+  where
+    found : Contains (w ∷ []) v → v ≡ w
+    found (zero, lt, e) = sym e
+    found (suc n, lt, e) = absurd (omega arith)
+
+-- work on a job whose headers say what was seen is work on it
+over_itself : (worked : Job) (seen : List Dep) (job : Job) → job ≡ worked → Agrees worked.headers seen → IsOver worked seen job
+over_itself worked seen job same agrees = record { same = ap work_of (sym same); agrees = subst (λ (j : Job). Agrees j.headers seen) (sym same) agrees }
+
+ends_turn : (old new : Core) (worked : Job) (seen : List Dep) (mark : ℕ) (h : How) (o : Out) (effects : List Effect)
+    → Agrees worked.headers seen → Completes old worked seen mark h o new effects → WorksOn old worked → (messages_taken new ≡ messages_taken old) × (reads_taken new ≡ reads_taken old) × EndsTurn new effects
+ends_turn old new worked seen mark h o effects agrees c works = ⊎_elim
     (λ r.
-    let none : left_after old job.message ≡ [] = none_after old works.waiting job works.only works.its_job in (
+    let job = r.waiting.job in
+    let its : works.waiting.job ≡ job = ap (λ (w : Waiting). w.job) (sym (one_found old.pending works.waiting r.waiting works.only r.waits)) in
+    let none : left_after old job.message ≡ [] = none_after old works.waiting job works.only its in (
       ap messages_taken r.new_is,
       ap reads_taken r.new_is,
       record {
@@ -200,7 +217,7 @@ ends_turn old new job mark h o effects c works = ⊎_elim
         goes_on = ap finish_of r.effects_are ∙ no_finish old.ending (is_nil (left_after old job.message)) works.goes_on;
       },
     ))
-    (λ q. absurd (q.not_out works.waiting (here_one old.pending works.waiting works.only) works.its_job)) c
+    (λ q. absurd (q.not_out works.waiting (here_one old.pending works.waiting works.only) (over_itself worked seen works.waiting.job works.its_job agrees))) c
 
 -- ---- it begins again, or awaits a read
 
@@ -208,10 +225,13 @@ again_one : (ws : List Waiting) (w : Waiting) (m number mark : ℕ) (headers : H
     → begun_again m number mark headers ws ≡ record w { job = again number mark headers w.job } ∷ []
 again_one ws w m number mark headers one same = rw (one, same, eq-eqb m m refl) refl
 
-need_turn : (old new : Core) (job : Job) (path : List ℕ) (effects : List Effect) → Needs old job path new effects ⊎ IsStale old job new effects → WorksOn old job
+need_turn : (old new : Core) (worked : Job) (seen : List Dep) (path : List ℕ) (effects : List Effect) → Agrees worked.headers seen → Lacks old worked seen path new effects → WorksOn old worked
     → (messages_taken new ≡ messages_taken old) × (reads_taken new ≡ reads_taken old) × (Restarts new effects ⊎ ReadsFirst path new effects)
-need_turn old new job path effects c works = ⊎_elim
-    (λ r. by_known _ (StartsAgain old job new effects) (Awaits old job path new effects)
+need_turn old new worked seen path effects agrees c works = ⊎_elim
+    (λ r.
+    let job = r.waiting.job in
+    let its : works.waiting.job ≡ job = ap (λ (w : Waiting). w.job) (sym (one_found old.pending works.waiting r.waiting works.only r.waits)) in
+    by_known _ (StartsAgain old job new effects) (Awaits old job path new effects)
     ((messages_taken new ≡ messages_taken old) × (reads_taken new ≡ reads_taken old) × (Restarts new effects ⊎ ReadsFirst path new effects)) r.so
     (λ a. (
       ap messages_taken a.new_is,
@@ -224,8 +244,8 @@ need_turn old new job path effects c works = ⊎_elim
         works = record {
           waiting = record works.waiting { job = again old.jobs (length old.journal) old.headers works.waiting.job };
           only = ap (λ (core : Core). core.pending) a.new_is
-              ∙ again_one old.pending works.waiting job.message old.jobs (length old.journal) old.headers works.only (ap (λ (j : Job). j.message) works.its_job);
-          its_job = ap (again old.jobs (length old.journal) old.headers) works.its_job;
+              ∙ again_one old.pending works.waiting job.message old.jobs (length old.journal) old.headers works.only (ap (λ (j : Job). j.message) its);
+          its_job = ap (again old.jobs (length old.journal) old.headers) its;
           none_awaited = ap (λ (core : Core). core.awaited) a.new_is ∙ works.none_awaited;
           goes_on = ap (λ (core : Core). core.ending) a.new_is ∙ works.goes_on;
           not_over = ap (λ (core : Core). core.finished) a.new_is ∙ works.not_over;
@@ -243,22 +263,14 @@ need_turn old new job path effects c works = ⊎_elim
           waiting = works.waiting;
           only = ap (λ (core : Core). core.pending) a.new_is ∙ works.only;
           message = job.message;
-          its_message = ap (λ (j : Job). j.message) works.its_job;
+          its_message = ap (λ (j : Job). j.message) its;
           awaited = ap (λ (core : Core). core.awaited) a.new_is;
           goes_on = ap (λ (core : Core). core.ending) a.new_is ∙ works.goes_on;
           not_over = ap (λ (core : Core). core.finished) a.new_is ∙ works.not_over;
         };
       }),
     )))
-    (λ q. absurd (q.not_out works.waiting (here_one old.pending works.waiting works.only) works.its_job)) c
-
--- the only one that waits is the one that is found
-one_found : (ws : List Waiting) (w v : Waiting) → ws ≡ w ∷ [] → Contains ws v → v ≡ w
-one_found ws w v one among = found (subst (λ (us : List Waiting). Contains us v) one among)
-  where
-    found : Contains (w ∷ []) v → v ≡ w
-    found (zero, lt, e) = sym e
-    found (suc n, lt, e) = absurd (omega arith)
+    (λ q. absurd (q.not_out works.waiting (here_one old.pending works.waiting works.only) (over_itself worked seen works.waiting.job works.its_job agrees))) c
 
 load_turn : (old new : Core) (message : ℕ) (path : List ℕ) (read : Read) (effects : List Effect) → Loads old message path read new effects ⊎ IsLost old message new effects → AwaitsRead old path → message ≡ awaited_message old
     → (messages_taken new ≡ messages_taken old) × (reads_taken new ≡ reads_taken old + 1) × Restarts new effects
@@ -315,9 +327,9 @@ step_turns old new (event.Message p) effects steps = λ idle.
 step_turns old new (event.Loaded path read) effects steps = λ awaits.
     load_turn old new (awaited_message old) path read effects (on old new (event.Loaded path read) effects (rw (awaits.not_over, awaits.awaited) (same_path path)) steps) awaits refl
 step_turns old new (event.Done done) effects steps = λ works.
-    ends_turn old new done.job done.job.mark how.Answered (out.Answer done.answer) effects (on old new (event.Done done) effects (rw (works.not_over, works.none_awaited) refl) steps) works
+    ends_turn old new done.job done.seen done.job.mark how.Answered (out.Answer done.answer) effects done.agrees (on old new (event.Done done) effects (rw (works.not_over, works.none_awaited) refl) steps) works
 step_turns old new (event.Need need) effects steps = λ works.
-    need_turn old new need.job need.path effects (on old new (event.Need need) effects (rw (works.not_over, works.none_awaited) refl) steps) works
+    need_turn old new need.job need.seen need.path effects need.agrees (on old new (event.Need need) effects (rw (works.not_over, works.none_awaited) refl) steps) works
 step_turns old new (event.NoMemory job) effects steps = λ works.
-    ends_turn old new job (length old.journal) how.Memory (out.Error out_of_memory) effects (on old new (event.NoMemory job) effects (rw (works.not_over, works.none_awaited) refl) steps) works
+    ends_turn old new job [] (length old.journal) how.Memory (out.Error out_of_memory) effects tt (on old new (event.NoMemory job) effects (rw (works.not_over, works.none_awaited) refl) steps) works
 step_turns old new (event.End e) effects steps = λ idle. stops_idle old new e effects (on old new (event.End e) effects (rw (idle.not_over, idle.none_awaited) refl) steps) idle

@@ -13,7 +13,9 @@ use Rattle.cl_rpc.specs.declared.out.Reply.{Reply}
 use Rattle.cl_rpc.specs.Replies.{reply_frame}
 use Rattle.cl_rpc.specs.Classes.{Class, initialises, shuts_down, cancels}
 use Rattle.cl_query.specs.declared.job.Job.{Job}
+use Rattle.cl_query.specs.declared.seen.Dep.{Dep}
 use Rattle.cl_query.specs.AnswerOf.{AnswerOf}
+use Rattle.cl_query.specs.Over.{IsOver}
 use Rattle.cl_history.specs.declared.entry.Entry.{Entry}
 use Rattle.cl_history.specs.declared.entry.Entry.TheVariants as entry
 use Rattle.cl_history.specs.Given.{Given, said}
@@ -29,7 +31,7 @@ use Rattle.cl_core.specs.declared.event.Ending.{Ending}
 use Rattle.cl_core.specs.declared.waiting.Waiting.{Waiting}
 use Rattle.cl_core.specs.Waiting.{class_of_waiting}
 use Rattle.cl_core.specs.Deciding.{code_of, core_refusal, ended, ends_by, entry_of, meant_by, replies_by, replies_if_accepted, replies_of, reply_by, started_by}
-use Rattle.cl_core.specs.Steps.{Takes, Replies, Completes, Stops, StartsAgain, Awaits, Needs, Loads, IsStale, IsLost, start_jobs, finish, finish_if, is_nil, ending_after, pending_after, left_after, first_ending, status_of}
+use Rattle.cl_core.specs.Steps.{Takes, Replies, Completes, Stops, StartsAgain, Awaits, Lacks, Loads, IsLost, start_jobs, finish, finish_if, is_nil, ending_after, pending_after, left_after, first_ending, status_of}
 use Rattle.cl_core.specs.Standing.{Asks, StandsFor, WritesOn, frames_of, past_of}
 use Rattle.cl_core.proofs.Onto.{onto}
 use Rattle.cl_core.proofs.Dues.{same_refusal}
@@ -185,18 +187,17 @@ tells_job given past w mark h o a rests is = record {
   out_is = subst (λ (k : Class). IsOut AnswerOf given (before past w.job.message) (past_at past mark) k h o) (sym a.said_so) (job_out given past w mark h o a rests is);
 }
 
-reply_writes : (given : Given) (old new : Core) (job : Job) (mark : ℕ) (h : How) (o : Out) (effects : List Effect)
-    → StandsFor given old → RestsOn job mark h → IsJobsOut job h o → Replies old job mark h o new effects → WritesOn given old new effects
-reply_writes given old new job mark h o effects s rests is r bytes w =
-    let reply = reply_by job.message mark h (Some r.waiting.id) o in
+reply_writes : (given : Given) (old new : Core) (worked : Job) (seen : List Dep) (mark : ℕ) (h : How) (o : Out) (effects : List Effect)
+    → StandsFor given old → ((job : Job) → IsOver worked seen job → RestsOn job mark h × IsJobsOut job h o) → Replies old worked seen mark h o new effects → WritesOn given old new effects
+reply_writes given old new worked seen mark h o effects s is r bytes w =
+    let m = r.waiting.job.message in
+    let reply = reply_by m mark h (Some r.waiting.id) o in
+    let so = is r.waiting.job r.over in
     let asks : Asks given (past_of old) r.waiting = one_of (Asks given (past_of old)) old.pending r.waiting s.asks r.waits in
-    let tells : Tells AnswerOf given (past_of old) job.message mark h reply =
-    subst (λ (j : Job). Tells AnswerOf given (past_of old) j.message mark h (reply_by j.message mark h (Some r.waiting.id) o)) r.same_job
-    (tells_job given (past_of old) r.waiting mark h o asks (subst (λ (j : Job). RestsOn j mark h) (sym r.same_job) rests) (subst (λ (j : Job). IsJobsOut j h o) (sym r.same_job) is)) in
+    let tells : Tells AnswerOf given (past_of old) m mark h reply = tells_job given (past_of old) r.waiting mark h o asks so.0 so.1 in
     let frames : frames_of effects ≡ reply_frame reply =
-    ap frames_of r.effects_are ∙ ap (λ (more : List ℕ). reply_frame reply ++ more) (no_frames_of_finish old.ending (is_nil (left_after old job.message))) ∙ append-nil (reply_frame reply) in
-    let here : past_of new ≡ entry.Reply job.message mark h ∷ past_of old =
-    ap past_of r.new_is ∙ past_with old.journal (entry.Reply job.message mark h) in
+    ap frames_of r.effects_are ∙ ap (λ (more : List ℕ). reply_frame reply ++ more) (no_frames_of_finish old.ending (is_nil (left_after old m))) ∙ append-nil (reply_frame reply) in
+    let here : past_of new ≡ entry.Reply m mark h ∷ past_of old = ap past_of r.new_is ∙ past_with old.journal (entry.Reply m mark h) in
     subst (λ (past : List Entry). Writes AnswerOf given past (bytes ++ frames_of effects)) (sym here)
     (bytes, frames_of effects, w, (reply, tells, frames), refl)
 
@@ -210,14 +211,14 @@ quiet_writes given old new effects same quiet bytes w =
 pub nothing_writes : (given : Given) (old new : Core) (effects : List Effect) → new ≡ old → effects ≡ [] → WritesOn given old new effects
 nothing_writes given old new effects same none = quiet_writes given old new effects (ap past_of same) (ap frames_of none)
 
-pub job_writes : (given : Given) (old new : Core) (job : Job) (mark : ℕ) (h : How) (o : Out) (effects : List Effect)
-    → StandsFor given old → RestsOn job mark h → IsJobsOut job h o → Completes old job mark h o new effects → WritesOn given old new effects
-job_writes given old new job mark h o effects s rests is c =
-    ⊎_elim (λ r. reply_writes given old new job mark h o effects s rests is r) (λ q. nothing_writes given old new effects q.same q.none) c
+pub job_writes : (given : Given) (old new : Core) (worked : Job) (seen : List Dep) (mark : ℕ) (h : How) (o : Out) (effects : List Effect)
+    → StandsFor given old → ((job : Job) → IsOver worked seen job → RestsOn job mark h × IsJobsOut job h o) → Completes old worked seen mark h o new effects → WritesOn given old new effects
+job_writes given old new worked seen mark h o effects s is c =
+    ⊎_elim (λ r. reply_writes given old new worked seen mark h o effects s is r) (λ q. nothing_writes given old new effects q.same q.none) c
 
-pub need_writes : (given : Given) (old new : Core) (job : Job) (path : List ℕ) (effects : List Effect) → Needs old job path new effects ⊎ IsStale old job new effects → WritesOn given old new effects
-need_writes given old new job path effects c = ⊎_elim
-    (λ r. by_known _ (StartsAgain old job new effects) (Awaits old job path new effects) (WritesOn given old new effects) r.so
+pub need_writes : (given : Given) (old new : Core) (worked : Job) (seen : List Dep) (path : List ℕ) (effects : List Effect) → Lacks old worked seen path new effects → WritesOn given old new effects
+need_writes given old new worked seen path effects c = ⊎_elim
+    (λ r. by_known _ (StartsAgain old r.waiting.job new effects) (Awaits old r.waiting.job path new effects) (WritesOn given old new effects) r.so
     (λ a. quiet_writes given old new effects (ap past_of a.new_is) (ap frames_of a.effects_are))
     (λ e a. quiet_writes given old new effects (ap past_of a.new_is) (ap frames_of a.effects_are)))
     (λ q. nothing_writes given old new effects q.same q.none)

@@ -2,6 +2,7 @@
 use Rattle.std.specs.Prelude.{◌≡◌, ◌≢◌, ◌⊎◌, ℕ, ◌+◌, List, [], ◌∷◌, ◌++◌, length, reverse, true, Some, Contains}
 use Rattle.std.specs.List.{AllByRecursion}
 use Rattle.cl_query.specs.declared.job.Job.{Job}
+use Rattle.cl_query.specs.Over.{IsOver}
 use Rattle.cl_rpc.specs.declared.id.Id.{Id}
 use Rattle.cl_rpc.specs.Classes.{queries}
 use Rattle.cl_history.specs.declared.entry.Entry.{Entry}
@@ -39,11 +40,11 @@ abbrev pub AreNumberedFrom : ℕ → List Job → Type 0
 AreNumberedFrom n [] = Unit {0}
 AreNumberedFrom n (job ∷ jobs) = (job.number ≡ n) × AreNumberedFrom (n + 1) jobs
 
--- an event is the end of a job
+-- an event is the end of a job: what it tells of work on a job is work on this one
 abbrev pub IsEndOf : Event → Job → Type 0
-IsEndOf (event.Done done) job = done.job ≡ job
-IsEndOf (event.Need need) job = need.job ≡ job
-IsEndOf (event.NoMemory failed) job = failed ≡ job
+IsEndOf (event.Done done) job = IsOver done.job done.seen job
+IsEndOf (event.Need need) job = IsOver need.job need.seen job
+IsEndOf (event.NoMemory failed) job = IsOver failed [] job
 IsEndOf _ job = ⊥
 
 -- a job is out from its start on, until the first end of it is taken and heard

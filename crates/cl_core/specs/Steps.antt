@@ -10,6 +10,8 @@ use Rattle.cl_rpc.specs.declared.out.Out.{Out}
 use Rattle.cl_rpc.specs.declared.out.Out.TheVariants as out
 use Rattle.cl_rpc.specs.Classes.{Class, exits, class_of}
 use Rattle.cl_query.specs.declared.job.Job.{Job}
+use Rattle.cl_query.specs.declared.seen.Dep.{Dep}
+use Rattle.cl_query.specs.Over.{IsOver}
 use Rattle.cl_history.specs.declared.entry.Entry.{Entry}
 use Rattle.cl_history.specs.declared.entry.Entry.TheVariants as entry
 use Rattle.cl_history.specs.Refusals.{out_of_memory}
@@ -129,12 +131,13 @@ replied old job mark h = record old {
   finished = finishes old.ending (left_after old job.message);
 }
 
-pub record Replies (old : Core) (job : Job) (mark : ℕ) (h : How) (o : Out) (new : Core) (effects : List Effect) : Type 0 where
+-- work on a job, which saw this of headers, was work on the job of a request that waits: that is replied to
+pub record Replies (old : Core) (worked : Job) (seen : List Dep) (mark : ℕ) (h : How) (o : Out) (new : Core) (effects : List Effect) : Type 0 where
   pub waiting : Waiting
   pub waits : Contains old.pending waiting
-  pub same_job : waiting.job ≡ job
-  pub new_is : new ≡ replied old job mark h
-  pub effects_are : effects ≡ effect.Reply (reply_by job.message mark h (Some waiting.id) o) ∷ finish old.ending (left_after old job.message)
+  pub over : IsOver worked seen waiting.job
+  pub new_is : new ≡ replied old waiting.job mark h
+  pub effects_are : effects ≡ effect.Reply (reply_by waiting.job.message mark h (Some waiting.id) o) ∷ finish old.ending (left_after old waiting.job.message)
 
 -- ---- a job that starts again
 
@@ -159,21 +162,24 @@ pub record Awaits (old : Core) (job : Job) (path : List ℕ) (new : Core) (effec
   pub new_is : new ≡ record old { awaited = Some (record { message = job.message; path = path }) }
   pub effects_are : effects ≡ effect.Load path ∷ []
 
--- a job that is out needs a header
-pub record Needs (old : Core) (job : Job) (path : List ℕ) (new : Core) (effects : List Effect) : Type 0 where
+-- work on a job was work on the job of a request that waits, which needs a header
+pub record Needs (old : Core) (worked : Job) (seen : List Dep) (path : List ℕ) (new : Core) (effects : List Effect) : Type 0 where
   pub waiting : Waiting
   pub waits : Contains old.pending waiting
-  pub same_job : waiting.job ≡ job
-  pub so : MatchBool (is_some (known_at old.headers path)) (StartsAgain old job new effects) (Awaits old job path new effects)
+  pub over : IsOver worked seen waiting.job
+  pub so : MatchBool (is_some (known_at old.headers path)) (StartsAgain old waiting.job new effects) (Awaits old waiting.job path new effects)
 
--- the end of a job that isn't out has no effect
-pub record IsStale (old : Core) (job : Job) (new : Core) (effects : List Effect) : Type 0 where
-  pub not_out : (waiting : Waiting) → Contains old.pending waiting → waiting.job ≡ job → ⊥
+-- work that isn't work on a job that is out has no effect
+pub record IsStale (old : Core) (worked : Job) (seen : List Dep) (new : Core) (effects : List Effect) : Type 0 where
+  pub not_out : (waiting : Waiting) → Contains old.pending waiting → IsOver worked seen waiting.job → ⊥
   pub same : new ≡ old
   pub none : effects ≡ []
 
-abbrev pub Completes : Core → Job → ℕ → How → Out → Core → List Effect → Type 0
-Completes old job mark h o new effects = Replies old job mark h o new effects ⊎ IsStale old job new effects
+abbrev pub Completes : Core → Job → List Dep → ℕ → How → Out → Core → List Effect → Type 0
+Completes old worked seen mark h o new effects = Replies old worked seen mark h o new effects ⊎ IsStale old worked seen new effects
+
+abbrev pub Lacks : Core → Job → List Dep → List ℕ → Core → List Effect → Type 0
+Lacks old worked seen path new effects = Needs old worked seen path new effects ⊎ IsStale old worked seen new effects
 
 -- ---- a read
 
@@ -215,9 +221,9 @@ pub record Stops (old : Core) (how_it_ended : Ending) (new : Core) (effects : Li
 abbrev pub StepsOn : Core → Event → Core → List Effect → Type 0
 StepsOn old (event.Message p) new effects = Takes old (class_of p) new effects
 StepsOn old (event.Loaded path read) new effects = Loads old (awaited_message old) path read new effects ⊎ IsLost old (awaited_message old) new effects
-StepsOn old (event.Done done) new effects = Completes old done.job done.job.mark how.Answered (out.Answer done.answer) new effects
-StepsOn old (event.Need need) new effects = Needs old need.job need.path new effects ⊎ IsStale old need.job new effects
-StepsOn old (event.NoMemory job) new effects = Completes old job (length old.journal) how.Memory (out.Error out_of_memory) new effects
+StepsOn old (event.Done done) new effects = Completes old done.job done.seen done.job.mark how.Answered (out.Answer done.answer) new effects
+StepsOn old (event.Need need) new effects = Lacks old need.job need.seen need.path new effects
+StepsOn old (event.NoMemory job) new effects = Completes old job [] (length old.journal) how.Memory (out.Error out_of_memory) new effects
 StepsOn old (event.End e) new effects = Stops old e new effects
 
 -- an event that isn't heard does nothing

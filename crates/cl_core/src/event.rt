@@ -28,7 +28,7 @@ pub enum Event {
     Done(Done),
     /// A job needs a header that its snapshot doesn't know.
     Need(Need),
-    /// A job could not be done for want of memory.
+    /// A job couldn't be done for want of memory.
     NoMemory(Job),
     /// The input ended.
     End(Ending),

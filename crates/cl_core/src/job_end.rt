@@ -8,23 +8,25 @@ use crate::replies::one;
 use crate::waiting::Which;
 use cl_base::{Duplicate, List, Mem};
 use cl_history::Entry;
-use cl_query::Job;
+use cl_query::{Dep, Job};
 use cl_rpc::{How, Out, Reply};
 use std::alloc::Global;
 
-/// Takes the end of a job, which its request is replied with. A job that isn't out has no effect.
+/// Takes the end of work on a job, which saw this of headers: the request is replied to whose job it was work on. Where
+/// no such job is out, it has no effect.
 pub fn complete(
     alloc: Global,
     core: &mut State,
     job: &Job,
+    seen: &[Dep],
     mark: u64,
     how: How,
     out: Out,
 ) -> Mem<List<Effect>>
-    ensures ok { IfOk result (λ effects. Completes core.old job.now mark how out core.new effects) }
+    ensures ok { IfOk result (λ effects. Completes core.old job.now seen.now mark how out core.new effects) }
     ensures err { OnErr result (core.new ≡ core.old) }
 {
-    let waiting = match core.pending.waiting_for(job) {
+    let waiting = match core.pending.waiting_for(job, seen) {
         Some(waiting) => waiting,
         None => return Ok(List::new(alloc)),
     };

@@ -2,7 +2,7 @@
 
 ghost use Rattle.std.specs.Prelude.{◌≡◌, ◌⊎◌, ◌∷◌, [], ◌++◌, ◌+◌, Some, IfOk, OnErr, Contains, length};
 ghost use Rattle.cl_core.specs.declared.waiting.Waiting.{Waiting};
-ghost use Rattle.cl_core.specs.Steps.{IsLost, IsStale, Loads, Needs, StartsAgain};
+ghost use Rattle.cl_core.specs.Steps.{IsLost, Lacks, Loads, StartsAgain};
 
 use crate::core_state::{Awaited, State};
 use crate::event::Effect;
@@ -13,14 +13,14 @@ use cl_history::Entry;
 use cl_query::{Job, Need};
 use std::alloc::Global;
 
-/// Takes the need of a job: its header is to be read, where it is unknown still, and else the job starts again. A job
-/// that isn't out has no effect.
+/// Takes the need of a job: its header is to be read, where it is unknown still, and else the job starts again. Where no
+/// job is out that it was work on, it has no effect.
 pub fn need(alloc: Global, core: &mut State, need: Need) -> Mem<List<Effect>>
-    ensures ok { IfOk result (λ effects. Needs core.old need.job need.path core.new effects ⊎ IsStale core.old need.job core.new effects) }
+    ensures ok { IfOk result (λ effects. Lacks core.old need.job need.seen need.path core.new effects) }
     ensures err { OnErr result (core.new ≡ core.old) }
 {
-    let Need { job, path } = need;
-    if core.pending.waiting_for(&job).is_none() {
+    let Need { job, path, seen } = need;
+    if core.pending.waiting_for(&job, seen.as_slice()).is_none() {
         return Ok(List::new(alloc));
     }
     match core.headers.get(&path) {

@@ -6,6 +6,7 @@ ghost use Rattle.std.specs.List.{AllByRecursion, list_any};
 ghost use Rattle.std.specs.Option.{option_copied};
 ghost use Rattle.cl_core.specs.declared.waiting.Waiting.{Waiting};
 ghost use Rattle.cl_core.specs.Waiting.{has_id, is_meant, number_of};
+ghost use Rattle.cl_query.specs.Over.{IsOver};
 ghost use Rattle.cl_core.specs.Indexes.{found_in};
 ghost use Rattle.cl_core.specs.Steps.{again, begun_again, is_nil};
 
@@ -13,7 +14,7 @@ use crate::index::{Documents, Ids};
 use crate::waiting::{Waiting, Which};
 use cl_base::{Duplicate, Mem, Memory};
 use cl_headers::HeaderMap;
-use cl_query::Job;
+use cl_query::{Dep, Job};
 use cl_rpc::Id;
 use std::alloc::Global;
 use std::collections::BTreeMap;
@@ -136,13 +137,13 @@ impl Pending {
         Ok(found)
     }
 
-    /// The request whose job this is, if its job is out.
-    pub fn waiting_for(&self, job: &Job) -> Option<&Waiting>
-        ensures found { IfSome result (λ waiting. (waiting.now.job ≡ job.now) × Contains self.now waiting.now) }
-        ensures out { IsNone result → (waiting : Waiting) → Contains self.now waiting → waiting.job ≡ job.now → ⊥ }
+    /// The request whose job the work on this one, which saw this of headers, was work on.
+    pub fn waiting_for(&self, job: &Job, seen: &[Dep]) -> Option<&Waiting>
+        ensures found { IfSome result (λ waiting. IsOver job.now seen.now waiting.now.job × Contains self.now waiting.now) }
+        ensures out { IsNone result → (waiting : Waiting) → Contains self.now waiting → IsOver job.now seen.now waiting.job → ⊥ }
     {
         match self.at(job.message) {
-            Some(waiting) => match waiting.job.same(job) {
+            Some(waiting) => match job.is_over(seen, &waiting.job) {
                 true => Some(waiting),
                 false => None,
             },

@@ -57,14 +57,15 @@ fn advance(alloc: Global, core: &mut State, event: Event) -> Mem<List<Effect>>
             None => Ok(List::new(alloc)),
         },
         Event::Done(done) => {
-            let Done { job, answer } = done;
+            let Done { job, answer, seen } = done;
             let mark = job.mark;
-            complete(alloc, core, &job, mark, How::Answered, Out::Answer(answer))
+            let out = Out::Answer(answer);
+            complete(alloc, core, &job, seen.as_slice(), mark, How::Answered, out)
         }
         Event::Need(job) => need(alloc, core, job),
         Event::NoMemory(job) => {
             let mark = core.journal.len() as u64;
-            complete(alloc, core, &job, mark, How::Memory, Out::Error(-32803))
+            complete(alloc, core, &job, &[], mark, How::Memory, Out::Error(-32803))
         }
         Event::End(ending) => end(alloc, core, ending),
     }

@@ -1,4 +1,6 @@
 pub mod Symbols
 pub mod AnswerOf
 pub mod Unknowns
+pub mod Seen
+pub mod Over
 pub mod Worked

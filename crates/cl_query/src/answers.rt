@@ -1,7 +1,7 @@
 //! Finds answers.
 
-ghost use Rattle.std.specs.Prelude.{IfOk};
-ghost use Rattle.cl_query.specs.AnswerOf.{AnswerOf};
+ghost use Rattle.std.specs.Prelude.{IfOk, []};
+ghost use Rattle.cl_query.specs.Seen.{Rests};
 
 use crate::job::Job;
 use crate::symbols::symbols;
@@ -10,9 +10,9 @@ use cl_parse::items;
 use cl_pp::preprocess;
 use std::alloc::Global;
 
-/// The answer of a job.
+/// The answer of a job. No header is looked at.
 pub(crate) fn answer_of(alloc: Global, job: &Job) -> Mem<Answer>
-    ensures { IfOk result (λ answer. AnswerOf job.now.kind job.now.config job.now.headers job.now.path job.now.text answer) }
+    ensures { IfOk result (λ answer. Rests job.now.kind job.now.config [] job.now.path job.now.text answer) }
 {
     match job.kind {
         Query::Symbols => {

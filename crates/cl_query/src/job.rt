@@ -1,7 +1,9 @@
 //! The work for one query.
 
 ghost use Rattle.std.specs.Prelude.{◌≡◌, ◌↔◌, IsTrue};
+ghost use Rattle.cl_query.specs.Over.{IsOver, work_of};
 
+use crate::seen::{Dep, agrees};
 use cl_base::{Config, Duplicate, Mem, Path, Query, Text};
 use cl_headers::HeaderMap;
 use std::alloc::Global;
@@ -24,9 +26,18 @@ pub struct Job {
 }
 
 impl Job {
-    /// Whether this is the same job as the other. It takes no memory, and time linear in what the two hold.
-    pub fn same(&self, other: &Job) -> bool
-        ensures { IsTrue result ↔ (self.now ≡ other.now) }
+    /// Whether work on this job, which saw this of headers, is work on the other: the two are the same but for what is
+    /// known of headers, and the other's headers say what was seen. It takes no memory, time linear in the texts of the
+    /// two, and time logarithmic in the other's headers for each of those that were looked at.
+    pub fn is_over(&self, seen: &[Dep], other: &Job) -> bool
+        ensures { IsTrue result ↔ IsOver self.now seen.now other.now }
+    {
+        self.is_same_work(other) && agrees(&other.headers, seen)
+    }
+
+    /// Whether the other job is the same but for what is known of headers.
+    fn is_same_work(&self, other: &Job) -> bool
+        ensures { IsTrue result ↔ (work_of self.now ≡ work_of other.now) }
     {
         self.number == other.number
             && self.message == other.message
@@ -36,7 +47,6 @@ impl Job {
             && self.path == other.path
             && self.text == other.text
             && self.config.same(&other.config)
-            && self.headers.same(&other.headers)
     }
 }
 

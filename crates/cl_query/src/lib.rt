@@ -6,9 +6,11 @@ mod done;
 mod job;
 mod laws;
 mod run;
+mod seen;
 mod symbols;
 
 pub use done::{Done, JobAnswer, Need};
 pub use job::Job;
 pub use laws::{one_answer, some_answer};
 pub use run::run_job;
+pub use seen::Dep;

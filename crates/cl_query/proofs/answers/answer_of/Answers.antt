@@ -14,8 +14,8 @@ symbols-requires-clause-items c =
     subst (λ (ts : List PpToken). ItemsOf ts c.as_slice-3.result.now) (c.as_slice.ensures.value ∙ sym c.as_slice-2.ensures.value) (subst (ItemsOf c.as_slice.result.now) (sym c.as_slice-3.ensures.value) c.in_ok-items.ensures)
 
 pub returns : goal.returns
-returns c =
-    found c.args.job.now.kind c.args.job.now.config c.args.job.now.headers c.args.job.now.path c.args.job.now.text c.bytes-text.result.now c.in_ok-done.done c.as_slice.result.now c.as_slice-2.result.now
+returns c = λ headers agrees.
+    found c.args.job.now.kind c.args.job.now.config headers c.args.job.now.path c.args.job.now.text c.bytes-text.result.now c.in_ok-done.done c.as_slice.result.now c.as_slice-2.result.now
     c.in_ok-items.items c.as_slice-3.result.now c.in_ok-symbols.symbols
     c.bytes-text.ensures.value c.as_slice.ensures.value c.as_slice-2.ensures.value c.as_slice-3.ensures.value
     c.in_ok-done.ensures.done c.in_ok-items.ensures c.in_ok-symbols.ensures
