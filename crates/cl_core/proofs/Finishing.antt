@@ -22,7 +22,8 @@ use Rattle.cl_core.specs.declared.event.Effect.TheVariants as effect
 use Rattle.cl_core.specs.declared.waiting.Waiting.{Waiting}
 use Rattle.cl_core.specs.Waiting.{number_of}
 use Rattle.cl_core.specs.Deciding.{replies_of, started_by}
-use Rattle.cl_core.specs.Steps.{Takes, Completes, StartsAgain, Awaits, Lacks, Loads, IsLost, Stops, Steps, StepsOn, begun_again, finish_if, first_ending, hears, status_of, ending_after, left_after, pending_after, is_nil, is_exit, is_accepted, start_jobs, awaited_message}
+use Rattle.cl_history.specs.Refusals.{is_exit}
+use Rattle.cl_core.specs.Steps.{Takes, Completes, StartsAgain, Awaits, Lacks, Loads, IsLost, Stops, Steps, StepsOn, begun_again, finish_if, first_ending, hears, status_of, ending_after, left_after, pending_after, is_nil, is_accepted, start_jobs, awaited_message}
 use Rattle.cl_core.specs.Standing.{IsIdle, StandsFor, finish_of, journal_of}
 use Rattle.cl_core.specs.Runs.{Put, TakesPut, Runs}
 use Rattle.cl_core.specs.Ends.{status_by, status_by_class, status_of_put, earlier_or, first_status, over, EndsAs, EndsOnce}

@@ -91,7 +91,7 @@ stands_on given old new (event.Loaded path read) effects heard next s c =
     load_stands given old new (awaited_message old) path read effects one.0 next s one.1 (sym (ap (λ (o : Option Awaited). unwrap_or (option_map (λ (a : Awaited). a.message) o) 0) one.1)) one.2 c
 stands_on given old new (event.Done done) effects heard next s c =
     job_stands given old new done.job done.seen done.job.mark how.Answered (out.Answer done.answer) effects s (none_awaited old (event.Done done) tt heard) (λ job over. mark_of done.job done.seen job over) c
-stands_on given old new (event.Need need) effects heard next s c = 
+stands_on given old new (event.Need need) effects heard next s c =
     need_stands given old new need.job need.seen need.path effects s (none_awaited old (event.Need need) tt heard) (λ job over. needs_over need.job need.seen job need.path over need.valid) c
 stands_on given old new (event.NoMemory job) effects heard next s c =
     job_stands given old new job [] (length old.journal) how.Memory (out.Error out_of_memory) effects s (none_awaited old (event.NoMemory job) tt heard) (λ other over. refl) c

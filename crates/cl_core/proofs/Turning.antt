@@ -19,7 +19,7 @@ use Rattle.cl_rpc.specs.declared.out.How.{How}
 use Rattle.cl_rpc.specs.declared.out.Out.{Out}
 use Rattle.cl_rpc.specs.declared.out.How.TheVariants as how
 use Rattle.cl_rpc.specs.declared.out.Out.TheVariants as out
-use Rattle.cl_history.specs.Refusals.{out_of_memory}
+use Rattle.cl_history.specs.Refusals.{is_exit, out_of_memory}
 use Rattle.cl_rpc.specs.declared.out.Reply.{Reply}
 use Rattle.cl_rpc.specs.Classes.{Class, queries, exits, class_of}
 use Rattle.cl_history.specs.History.{End}
@@ -33,7 +33,7 @@ use Rattle.cl_core.specs.declared.event.Effect.{Effect}
 use Rattle.cl_core.specs.declared.event.Effect.TheVariants as effect
 use Rattle.cl_core.specs.declared.waiting.Waiting.{Waiting}
 use Rattle.cl_core.specs.Deciding.{core_refusal, ends_by, others_than, replies_of, started_by, started_if, waiting_for}
-use Rattle.cl_core.specs.Steps.{Takes, Completes, Stops, StartsAgain, Awaits, Lacks, Loads, IsLost, Steps, StepsOn, hears, awaited_message, again, begun_again, start_jobs, finish, finish_if, finishes, is_nil, is_accepted, is_exit, first_ending, status_of, ending_after, left_after, pending_after}
+use Rattle.cl_core.specs.Steps.{Takes, Completes, Stops, StartsAgain, Awaits, Lacks, Loads, IsLost, Steps, StepsOn, hears, awaited_message, again, begun_again, start_jobs, finish, finish_if, finishes, is_nil, is_accepted, first_ending, status_of, ending_after, left_after, pending_after}
 use Rattle.cl_core.specs.Standing.{jobs_of, loads_of, finish_of, IsIdle, WorksOn, AwaitsRead, TakesTurn, EndsTurn, Restarts, ReadsFirst, EndsSession, Turns, messages_taken, reads_taken}
 use Rattle.cl_core.proofs.JobStands.{by_known}
 

@@ -23,7 +23,8 @@ use Rattle.cl_core.specs.declared.event.Event.TheVariants as event
 use Rattle.cl_core.specs.declared.waiting.Waiting.{Waiting}
 use Rattle.cl_core.specs.Waiting.{number_of, class_of_waiting}
 use Rattle.cl_core.specs.Deciding.{texts_of, versions_of}
-use Rattle.cl_core.specs.Steps.{hears, is_exit, status_of}
+use Rattle.cl_history.specs.Refusals.{is_exit}
+use Rattle.cl_core.specs.Steps.{hears, status_of}
 
 -- ---- the words of those above
 

@@ -8,13 +8,13 @@ use Rattle.cl_rpc.specs.declared.out.How.{How}
 use Rattle.cl_rpc.specs.declared.out.How.TheVariants as how
 use Rattle.cl_rpc.specs.declared.out.Out.{Out}
 use Rattle.cl_rpc.specs.declared.out.Out.TheVariants as out
-use Rattle.cl_rpc.specs.Classes.{Class, exits, class_of}
+use Rattle.cl_rpc.specs.Classes.{Class, class_of}
 use Rattle.cl_query.specs.declared.job.Job.{Job}
 use Rattle.cl_query.specs.declared.seen.Dep.{Dep}
 use Rattle.cl_query.specs.Over.{IsOver}
 use Rattle.cl_history.specs.declared.entry.Entry.{Entry}
 use Rattle.cl_history.specs.declared.entry.Entry.TheVariants as entry
-use Rattle.cl_history.specs.Refusals.{out_of_memory}
+use Rattle.cl_history.specs.Refusals.{is_exit, out_of_memory}
 use Rattle.cl_history.specs.History.{is_initialising, text_after, version_after}
 use Rattle.cl_history.specs.Headers.{told}
 use Rattle.cl_history.specs.Accepted.{is_shutdown}
@@ -53,10 +53,6 @@ finish ending left = finish_if ending (is_nil left)
 
 abbrev pub finishes : Option ℕ → List Waiting → Bool
 finishes ending left = is_some ending && is_nil left
-
-abbrev pub is_exit : Class → Bool
-is_exit exits = true
-is_exit _ = false
 
 -- the status with which an end that comes first decides
 abbrev pub first_ending : Option ℕ → ℕ → Option ℕ

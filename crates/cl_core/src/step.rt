@@ -65,7 +65,15 @@ fn advance(alloc: Global, core: &mut State, event: Event) -> Mem<List<Effect>>
         Event::Need(job) => need(alloc, core, job),
         Event::NoMemory(job) => {
             let mark = core.journal.len() as u64;
-            complete(alloc, core, &job, &[], mark, How::Memory, Out::Error(-32803))
+            complete(
+                alloc,
+                core,
+                &job,
+                &[],
+                mark,
+                How::Memory,
+                Out::Error(-32803),
+            )
         }
         Event::End(ending) => end(alloc, core, ending),
     }

@@ -1,7 +1,7 @@
 -- When a message is refused, by what holds where it is received.
 use Rattle.std.specs.Prelude.{ℕ, ℤ, negsuc, ◌&&◌, ◌||◌, List, [], ◌∷◌, Bool, true, false, not, if◌then◌else◌, Option, Some, None, is_some}
 use Rattle.cl_rpc.specs.declared.id.Id.{Id}
-use Rattle.cl_rpc.specs.Classes.{Class, initialises, shuts_down, queries, unknown, bad_params, invalid}
+use Rattle.cl_rpc.specs.Classes.{Class, initialises, shuts_down, queries, unknown, bad_params, invalid, exits}
 
 -- ---- the codes (JSON-RPC 2.0, section 5.1; LSP 3.17, ErrorCodes)
 
@@ -51,6 +51,11 @@ is_unknown _ = false
 abbrev pub has_bad_params : Class → Bool
 has_bad_params (bad_params i b) = true
 has_bad_params _ = false
+
+-- it is `exit` (LSP 3.17, Exit Notification)
+abbrev pub is_exit : Class → Bool
+is_exit exits = true
+is_exit _ = false
 
 -- the document of a request that has to be open
 abbrev pub document_of : Class → Option (List ℕ)

@@ -1,8 +1,9 @@
-//! Snapshots of what is known of headers: a copy keeps what it had, and jobs over other snapshots are others.
+//! Snapshots of what is known of headers: a copy keeps what it had, and work is over the jobs whose snapshots say what it
+//! saw.
 
 use cl_base::{Config, Duplicate, Known, List, Mem, Memory, Path, Query, Text};
 use cl_headers::HeaderMap;
-use cl_query::Job;
+use cl_query::{Dep, Job};
 use std::alloc::Global;
 
 /// The headers of a large session.
@@ -30,13 +31,22 @@ fn a_copy_keeps_what_it_had(rt: HostRuntime) -> Result<(), Memory> {
 }
 
 #[test]
-fn jobs_over_other_snapshots_are_others(rt: HostRuntime) -> Result<(), Memory> {
+fn work_is_over_jobs_that_say_what_it_saw(rt: HostRuntime) -> Result<(), Memory> {
     let alloc = rt.alloc();
     let mut headers = HeaderMap::new(alloc)?;
     let first = job(alloc, &headers)?;
     headers.put(alloc, Path::new(alloc, "/a.h")?, Known::Absent)?;
     let second = job(alloc, &headers)?;
-    assert!(rt; first.same(&first.duplicate(alloc)?) && !first.same(&second));
+    let nothing: [Dep; 0] = [];
+    let unknown = [saw(alloc, Known::Unknown)?];
+    let absent = [saw(alloc, Known::Absent)?];
+    let both = [saw(alloc, Known::Absent)?, saw(alloc, Known::Failed)?];
+    assert!(rt; first.is_over(&nothing, &first) && first.is_over(&nothing, &second));
+    assert!(rt; first.is_over(&unknown, &first) && !first.is_over(&unknown, &second));
+    assert!(rt; !first.is_over(&absent, &first) && first.is_over(&absent, &second));
+    assert!(rt; !first.is_over(&both, &second));
+    let other = Job { number: 1, ..second };
+    assert!(rt; !first.is_over(&nothing, &other));
     Ok(())
 }
 
@@ -71,6 +81,13 @@ fn known(alloc: Global, headers: &HeaderMap, path: &str) -> Mem<Option<Known>> {
     }
 }
 
+/// What was seen of a header.
+fn saw(alloc: Global, known: Known) -> Mem<Dep> {
+    let path = Path::new(alloc, "/a.h")?;
+    Ok(Dep { path, known })
+}
+
+/// A job over what is known of headers.
 fn job(alloc: Global, headers: &HeaderMap) -> Mem<Job> {
     Ok(Job {
         number: 0,

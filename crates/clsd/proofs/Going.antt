@@ -21,7 +21,8 @@ use Rattle.cl_history.specs.Given.{Given, received}
 use Rattle.cl_history.specs.History.{is_shut_down, pending}
 use Rattle.cl_history.specs.Legal.{IsSettled}
 use Rattle.cl_history.specs.Written.{Writes}
-use Rattle.cl_core.specs.Steps.{is_exit, status_of}
+use Rattle.cl_history.specs.Refusals.{is_exit}
+use Rattle.cl_core.specs.Steps.{status_of}
 use Rattle.cl_core.specs.Standing.{IsIdle, StandsFor, journal_of, past_of}
 use Rattle.clsd.proofs.InTime.{all_in_time}
 use Rattle.clsd.specs.Serving.{ended_with, EndsInput, Holds, IsCutOff, IsOver, Keeps, LeavesIdle, Turns}

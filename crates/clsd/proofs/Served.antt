@@ -15,7 +15,8 @@ use Rattle.cl_history.specs.Given.{Given}
 use Rattle.cl_history.specs.History.{pending}
 use Rattle.cl_history.specs.Legal.{IsSettled}
 use Rattle.cl_history.specs.Written.{Writes}
-use Rattle.cl_core.specs.Steps.{hears, is_exit}
+use Rattle.cl_history.specs.Refusals.{is_exit}
+use Rattle.cl_core.specs.Steps.{hears}
 use Rattle.cl_core.specs.Waiting.{number_of}
 use Rattle.cl_core.specs.Standing as standing
 use Rattle.cl_core.specs.Standing.{EndsTurn, IsIdle, IsNext, IsReady, StandsFor, TakesTurn, WorksOn, WritesOn, finish_of, frames_of, jobs_of, journal_of, messages_taken, past_of}

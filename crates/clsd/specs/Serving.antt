@@ -16,7 +16,8 @@ use Rattle.cl_history.specs.Legal.{IsSettled}
 use Rattle.cl_history.specs.Written.{Writes}
 use Rattle.cl_rpc.specs.Classes.{class_of}
 use Rattle.cl_core.specs.declared.event.Ending.{Ending}
-use Rattle.cl_core.specs.Steps.{is_exit, status_of}
+use Rattle.cl_history.specs.Refusals.{is_exit}
+use Rattle.cl_core.specs.Steps.{status_of}
 use Rattle.cl_core.specs.Standing.{IsIdle, StandsFor, WorksOn, messages_taken, past_of}
 use Rattle.clsd.specs.declared.session.Ended.{Ended}
 use Rattle.clsd.specs.declared.turn.Turn.{Turn}

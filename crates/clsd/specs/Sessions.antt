@@ -16,7 +16,7 @@ use Rattle.cl_history.specs.Given.{Given, received}
 use Rattle.cl_history.specs.History.{is_shut_down, pending}
 use Rattle.cl_history.specs.Legal.{IsLegal, IsSettled}
 use Rattle.cl_history.specs.Written.{Writes}
-use Rattle.cl_core.specs.Steps.{is_exit}
+use Rattle.cl_history.specs.Refusals.{is_exit}
 
 -- the body is that of an `exit`, after which nothing is read
 abbrev pub is_last : List ℕ → Bool
