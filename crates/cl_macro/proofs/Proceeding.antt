@@ -2,6 +2,7 @@
 use Rattle.std.proofs.Common.{length-drop, ◌≡◌, ℕ, ◌+◌, ◌≤◌, ◌<◌, List, [], ◌∷◌, ◌++◌, length, drop, take, map, reverse, ◌≢◌, Option, Some, None, refl, sym, ap, subst, ◌∙◌, arith, append_assoc}
 use Rattle.std.proofs.lemmas.Grind.{common_steps}
 use Rattle.cl_base.specs.declared.token.Span.{Span}
+use Rattle.cl_base.specs.Lent.{lent_value}
 use Rattle.cl_macro.specs.Rules.{Rules}
 use Rattle.cl_macro.specs.declared.word.Word.{Word}
 use Rattle.cl_macro.specs.declared.note.Note.{Note}
@@ -53,7 +54,7 @@ took_zero : (o : Option Word) → replacements (took o) ≡ 0
 took_zero None = refl
 took_zero (Some close) = took_none (place_of close)
 
-invoking_one : (w : Word) (ws : List Word) → replacements (invoking w ws) ≡ 1
+pub invoking_one : (w : Word) (ws : List Word) → replacements (invoking w ws) ≡ 1
 invoking_one w ws = let t = took_zero (close_of ws) in let e : replacements (invoking w ws) ≡ 0 + (1 + replacements (took (close_of ws))) = refl in omega arith
 
 pub le_trans : (a b c : ℕ) → a ≤ b → b ≤ c → a ≤ c
@@ -196,7 +197,7 @@ module _ (rules : Rules) where
   reached_large w rest fs next level level2 notes notes2 count found r e f out left ns d =
       let l = leads_then _ _ _ notes f.more r.leads f.leads in
       let p = l.back out left ns (starts w rest out left ns d) in
-      let i = leads_invokes rules next found.word (reverse level2.work) level2.rest.now level2.out (take found.count (ahead level2)) found.mac.now f.turns in
+      let i = leads_invokes rules next found.word (reverse level2.work) level2.rest.now level2.out (take found.count (ahead level2)) (lent_value found.mac) f.turns in
       let q = i.back out left p.more p.goes in
       let a = replacements_more (notes ++ f.more) p.more in
       let b = replacements_more notes f.more in
@@ -209,7 +210,7 @@ module _ (rules : Rules) where
       → f ≡ begun_at found level2 → notes3 ≡ notes2 ++ invoking found.word (take found.count (ahead level2))
       → Proceeds rules next f notes3 next3 level3 notes4 → Reached rules w rest next3 level3 notes4 (count + 1)
   reached_on w rest fs next next3 level level2 level3 notes notes2 notes3 notes4 count found f r ne g ef en p =
-      let i = leads_invokes rules next found.word (reverse level2.work) level2.rest.now level2.out (take found.count (ahead level2)) found.mac.now g.turns in
+      let i = leads_invokes rules next found.word (reverse level2.work) level2.rest.now level2.out (take found.count (ahead level2)) (lent_value found.mac) g.turns in
       let i2 : Leads (working rules next (found.word ∷ reverse level2.work) level2.rest.now level2.out) (between rules next f) (invoking found.word (take found.count (ahead level2))) =
       subst (λ (h : Frame). Leads (working rules next (found.word ∷ reverse level2.work) level2.rest.now level2.out) (between rules next h) (invoking found.word (take found.count (ahead level2)))) (sym ef) i in
       let l = leads_then _ _ _ _ p.more (leads_then _ _ _ _ (invoking found.word (take found.count (ahead level2))) (leads_then _ _ _ notes g.more r.leads g.leads) i2) p.leads in

@@ -2,6 +2,7 @@
 use Rattle.std.specs.Prelude.{◌≡◌, ℕ, ◌-◌, ◌+◌, ◌≤◌, ◌++◌, List, [], ◌∷◌, reverse, length, drop, take, map, Option, Some, None}
 use Rattle.std.specs.List.{sum_by}
 use Rattle.cl_base.specs.declared.macros.Macro.{Macro}
+use Rattle.cl_base.specs.Lent.{lent_value}
 use Rattle.cl_macro.specs.Rules.{Rules}
 use Rattle.cl_macro.specs.Turns.{Invokes, turn}
 use Rattle.cl_macro.specs.declared.word.Word.{Word}
@@ -30,11 +31,11 @@ begun w work rest m behind before = record {
 }
 
 abbrev pub begun_at : Invoked → Level → Frame
-begun_at found level = begun found.word (reverse level.work) level.rest.now found.mac.now (take found.count (ahead level)) level.out
+begun_at found level = begun found.word (reverse level.work) level.rest.now (lent_value found.mac) (take found.count (ahead level)) level.out
 
 abbrev pub frame_of : Pending → Frame
 frame_of p = record {
-  mac = p.mac.now;
+  mac = lent_value p.mac;
   space = p.space;
   set = p.set;
   args = p.args;
@@ -90,9 +91,9 @@ module _ (rules : Rules) where
     pub none : replacements more ≡ 0
     pub leads : Leads (at_level fs first) (working rules next (found.word ∷ reverse level.work) level.rest.now level.out) more
     pub closed : Closed fs first.rest.now → Closed next level.rest.now
-    pub turns : turn rules.macros found.word (ahead level) ≡ Invokes found.mac.now (take found.count (ahead level))
+    pub turns : turn rules.macros found.word (ahead level) ≡ Invokes (lent_value found.mac) (take found.count (ahead level))
     pub within : found.count ≤ length (ahead level)
-    pub fits : Takes found.mac.now.params found.count
+    pub fits : Takes (lent_value found.mac).params found.count
 
   -- it has gone on to the end
   pub record Ends (fs : List Frame) (first : Level) (before : List Note) (next : List Frame) (level : Level) (notes : List Note) : Type 0 where

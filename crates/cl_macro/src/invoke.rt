@@ -2,6 +2,7 @@
 
 ghost use Rattle.std.specs.Prelude.{◌≡◌, ◌-◌, ◌+◌, ◌<◌, ◌≤◌, ◌++◌, ℕ, List, Option, length, take, IfOk, OnOk};
 ghost use Rattle.cl_macro.specs.Levels.{ahead, Suits, Takes};
+ghost use Rattle.cl_base.specs.Lent.{lent_value};
 ghost use Rattle.cl_macro.specs.Rules.{Rules};
 ghost use Rattle.cl_macro.specs.Walks.{notes_of};
 ghost use Rattle.cl_macro.specs.Turns.{invoking};
@@ -27,17 +28,17 @@ pub(crate) fn invoke<'a>(
     found: Invoked<'a>,
 ) -> Mem<Pending<'a>>
     requires within { found.count ≤ length (ahead level) }
-    requires takes { Takes found.mac.now.params found.count }
+    requires takes { Takes (lent_value found.mac).params found.count }
     ensures frame { IfOk result (λ p. frame_of p ≡ begun_at found.entry level.entry) }
     ensures notes { OnOk result (notes.new ≡ notes.old ++ invoking found.entry.word (take found.entry.count (ahead level.entry))) }
 {
     let mut level = level;
     note_invocation(alloc, notes, &level, &found.word, found.count)?;
     let set = set_of(alloc, &level, &found.word, found.count)?;
-    let args = args_of(alloc, &mut level, found.mac, found.count)?;
+    let args = args_of(alloc, &mut level, found.mac.get(), found.count)?;
     level.work.shrink();
-    let raw = raws(alloc, found.mac, &args)?;
-    let waiting = asked(alloc, found.mac, args)?;
+    let raw = raws(alloc, found.mac.get(), &args)?;
+    let waiting = asked(alloc, found.mac.get(), args)?;
     Ok(Pending {
         mac: found.mac,
         space: found.word.token.space,
@@ -88,7 +89,7 @@ fn replaced<'a>(
     ensures notes { (rules : Rules) → Suits rules place.now → OnOk result (notes.new ≡ notes.old ++ notes_of rules (frame_of pending.entry) pending.entry.done) }
 {
     let args = Args {
-        mac: pending.mac,
+        mac: pending.mac.get(),
         raw: &pending.args,
         full: &pending.done,
     };
