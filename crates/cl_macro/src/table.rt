@@ -89,7 +89,7 @@ impl MacroTable {
     }
 
     /// The next event gives the name this macro, or none.
-    fn put(&mut self, name: Name, set: Option<Macro>) -> Mem<()>
+    pub(crate) fn put(&mut self, name: Name, set: Option<Macro>) -> Mem<()>
         ensures ok { OnOk result (IsPut name set self.old self.new) }
         ensures err { OnErr result (IsAsBefore self.old self.new) }
     {

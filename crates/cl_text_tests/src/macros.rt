@@ -1,6 +1,7 @@
 use crate::replaced::REPLACED;
 use cl_base::{
-    BodyToken, Duplicate, EmptyBase, LineTable, List, Macro, Mem, Memory, Path, PpToken, Span, Token,
+    BodyToken, Duplicate, EmptyBase, LineTable, List, Macro, Mem, Memory, Path, PpToken, Span,
+    Token,
 };
 use cl_lex::lex;
 use cl_macro::{Defined, Expanded, MacroTable};
