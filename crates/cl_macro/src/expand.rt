@@ -7,23 +7,18 @@ ghost use Rattle.cl_macro.specs.Expansions.{IsExpansion, token_of};
 ghost use Rattle.cl_macro.specs.Levels.{Within, rules_of};
 ghost use Rattle.cl_macro.specs.Rules.{TellsTokens};
 ghost use Rattle.cl_macro.specs.Strings.{escaped, quoted};
+ghost use Rattle.cl_macro.specs.Table.{event_of, macro_of};
 ghost use Rattle.cl_macro.specs.Words.{fresh};
 
 use crate::args::reversed;
-use crate::note::Told;
+use crate::base::MacroBase;
+use crate::expanded::{Expanded, sorted};
 use crate::run::expand_run;
 use crate::spell::push_escaped;
 use crate::table::MacroTable;
-use crate::word::{Word, fresh};
-use cl_base::{Duplicate, LineTable, List, Mem, Name, Path, PpToken};
+use crate::word::Word;
+use cl_base::{LineTable, List, Mem, Name, Path, PpToken};
 use std::alloc::Global;
-
-/// What a run comes to: its tokens after replacement, and what is told of the way, in the order of the work.
-#[derive(Drop)]
-pub struct Expansion {
-    pub tokens: List<PpToken>,
-    pub told: List<Told>,
-}
 
 /// The string literal of a path (N1570 6.10.8.1).
 fn file_literal(alloc: Global, path: &Path) -> Mem<Name>
@@ -35,21 +30,6 @@ fn file_literal(alloc: Global, path: &Path) -> Mem<Name>
     text.push(b'"')?;
     let name = Name::new(alloc, text.as_slice())?;
     Ok(name)
-}
-
-/// The tokens of a run before anything happens.
-fn fresh_run(alloc: Global, run: &[PpToken]) -> Mem<List<Word>>
-    ensures { IfOk result (λ words. words ≡ map fresh run.now) }
-{
-    let mut words = List::new(alloc);
-    let mut rest = run;
-    while let Some((token, behind)) = rest.split_first() {
-        rest = behind;
-        let token = token.duplicate(alloc)?;
-        let word = fresh(alloc, token)?;
-        words.push(word)?;
-    }
-    Ok(words)
 }
 
 fn token_of(word: Word) -> PpToken
@@ -72,24 +52,22 @@ fn tokens_of(alloc: Global, words: List<Word>) -> Mem<List<PpToken>>
 
 impl MacroTable {
     /// The whole replacement of the macros in a run of tokens that holds no directive, in the file of this path and with
-    /// these lines (N1570 6.10.3). What is told are the names that are looked up, the names that are replaced, and the
-    /// faults 17 (more than 65,535 replacements), 19 (wrong number of arguments), 20 (no `)`) and 21 (`##` makes no token).
-    pub fn expand(
+    /// these lines (N1570 6.10.3). The faults are 17 (more than 65,535 replacements), 19 (wrong number of arguments), 20
+    /// (no `)`) and 21 (`##` makes no token).
+    pub fn expand<B: MacroBase>(
         &self,
         alloc: Global,
+        base: &B,
         run: &[PpToken],
         path: &Path,
         lines: &LineTable,
-    ) -> Mem<Expansion>
-        ensures { (one_token : List ℕ → Option TheKind) (text : List ℕ) → TellsTokens one_token → IsTableOf lines.now text → Within text (map fresh run.now) → IfOk result (λ all. IsExpansion (rules_of self.now one_token (quoted (escaped path.now)) text) run.now all.tokens all.told) }
+    ) -> Mem<Expanded>
+        ensures { (one_token : List ℕ → Option TheKind) (text : List ℕ) → TellsTokens one_token → IsTableOf lines.now text → Within text (map fresh run.now) → IfOk result (λ all. IsExpansion (rules_of (macro_of self.now (B.macros base.now)) one_token (quoted (escaped path.now)) text) (event_of self.now (B.events base.now)) run.now all) }
     {
         let file = file_literal(alloc, path)?;
-        let words = fresh_run(alloc, run)?;
-        let worked = expand_run(alloc, self, &file, lines, words.as_slice())?;
+        let worked = expand_run(alloc, self, base, &file, lines, run)?;
         let tokens = tokens_of(alloc, worked.words)?;
-        Ok(Expansion {
-            tokens,
-            told: worked.told,
-        })
+        let all = sorted(alloc, self, base, tokens, worked.told)?;
+        Ok(all)
     }
 }

@@ -2,11 +2,13 @@
 
 ghost use Rattle.std.specs.Prelude.{◌≡◌, ◌-◌, ◌+◌, ◌<◌, ◌≤◌, ◌++◌, ℕ, List, Option, length, take, IfOk, OnOk};
 ghost use Rattle.cl_macro.specs.Levels.{ahead, Suits, Takes};
+ghost use Rattle.cl_base.specs.Lent.{lent_value};
 ghost use Rattle.cl_macro.specs.Rules.{Rules};
 ghost use Rattle.cl_macro.specs.Walks.{notes_of};
 ghost use Rattle.cl_macro.specs.Turns.{invoking};
 ghost use Rattle.cl_macro.specs.Frames.{Proceeds, Replaced, Short, begun_at, frame_of, frames, waits};
 
+use crate::behind::Behind;
 use crate::args::{args_of, note_invocation, reversed, set_of};
 use crate::body::Args;
 use crate::level::Level;
@@ -27,17 +29,17 @@ pub(crate) fn invoke<'a>(
     found: Invoked<'a>,
 ) -> Mem<Pending<'a>>
     requires within { found.count ≤ length (ahead level) }
-    requires takes { Takes found.mac.now.params found.count }
+    requires takes { Takes (lent_value found.mac).params found.count }
     ensures frame { IfOk result (λ p. frame_of p ≡ begun_at found.entry level.entry) }
     ensures notes { OnOk result (notes.new ≡ notes.old ++ invoking found.entry.word (take found.entry.count (ahead level.entry))) }
 {
     let mut level = level;
     note_invocation(alloc, notes, &level, &found.word, found.count)?;
     let set = set_of(alloc, &level, &found.word, found.count)?;
-    let args = args_of(alloc, &mut level, found.mac, found.count)?;
+    let args = args_of(alloc, &mut level, found.mac.get(), found.count)?;
     level.work.shrink();
-    let raw = raws(alloc, found.mac, &args)?;
-    let waiting = asked(alloc, found.mac, args)?;
+    let raw = raws(alloc, found.mac.get(), &args)?;
+    let waiting = asked(alloc, found.mac.get(), args)?;
     Ok(Pending {
         mac: found.mac,
         space: found.word.token.space,
@@ -58,7 +60,7 @@ pub(crate) fn proceed<'a>(
     pending: Pending<'a>,
 ) -> Mem<Level<'a>>
     ensures fewer { OnOk result (waits calls.new ≤ waits calls.old + length pending.entry.waiting) }
-    ensures short { (n : ℕ) → Short n (frames calls.old) → length pending.entry.level.rest.now ≤ n → IfOk result (λ level. Short n (frames calls.new) × (length level.rest.now ≤ n)) }
+    ensures short { (n : ℕ) → Short n (frames calls.old) → length pending.entry.level.rest ≤ n → IfOk result (λ level. Short n (frames calls.new) × (length level.rest ≤ n)) }
     ensures proceeds { (rules : Rules) → Suits rules place.now → IfOk result (λ level. Proceeds rules (frames calls.old) (frame_of pending.entry) notes.old (frames calls.new) level notes.new) }
 {
     let mut pending = pending;
@@ -67,11 +69,10 @@ pub(crate) fn proceed<'a>(
         return Ok(level);
     };
     let work = reversed(alloc, arg)?;
-    let (rest, _) = pending.level.rest.split_at(0);
     calls.push(pending)?;
     Ok(Level {
         work,
-        rest,
+        rest: Behind::new(&[]),
         out: List::new(alloc),
     })
 }
@@ -84,11 +85,11 @@ fn replaced<'a>(
     pending: Pending<'a>,
 ) -> Mem<Level<'a>>
     ensures words { (rules : Rules) → Suits rules place.now → IfOk result (λ level. Replaced rules (frame_of pending.entry) level) }
-    ensures rest { IfOk result (λ level. level.rest.now ≡ pending.entry.level.rest.now) }
+    ensures rest { IfOk result (λ level. level.rest ≡ pending.entry.level.rest) }
     ensures notes { (rules : Rules) → Suits rules place.now → OnOk result (notes.new ≡ notes.old ++ notes_of rules (frame_of pending.entry) pending.entry.done) }
 {
     let args = Args {
-        mac: pending.mac,
+        mac: pending.mac.get(),
         raw: &pending.args,
         full: &pending.done,
     };

@@ -1,16 +1,27 @@
 //! What holds of every run.
 
-ghost use Rattle.std.specs.Prelude.{◌≡◌, ℕ, List, Option};
+ghost use Rattle.std.specs.Prelude.{◌≡◌, ℕ, List, Option, All, []};
+ghost use Rattle.cl_base.specs.declared.macros.MacroNo.{MacroNo};
 ghost use Rattle.cl_base.specs.declared.token.Kind.{Kind};
+ghost use Rattle.cl_base.specs.declared.token.PpToken.{PpToken};
 ghost use Rattle.cl_base.specs.declared.token.Span.{Span};
-ghost use Rattle.cl_macro.specs.declared.word.Word.{Word};
-ghost use Rattle.cl_macro.specs.declared.note.Told.{Told};
+ghost use Rattle.cl_macro.specs.declared.expanded.Expanded.{Expanded};
 ghost use Rattle.cl_macro.specs.Rules.{Rules, TellsTokens};
-ghost use Rattle.cl_macro.specs.Replacing.{Expands};
+ghost use Rattle.cl_macro.specs.Expansions.{IsExpansion, IsPlain};
 
-/// A run comes to one list of tokens, and one list of what is told of it.
+/// A run comes to one result.
 pub fn one_expansion()
-    ensures { (rules_at : Span → Rules) (before : ℕ) (run x y : List Word) (n m : List Told) → Expands rules_at before run x n → Expands rules_at before run y m → (x ≡ y) × (n ≡ m) }
+    ensures { (rules_at : Span → Rules) (events : List ℕ → Option MacroNo) (run : List PpToken) (x y : Expanded) → IsExpansion rules_at events run x → IsExpansion rules_at events run y → x ≡ y }
+{}
+
+/// Every run comes to a result.
+pub fn some_expansion()
+    ensures { (rules_at : Span → Rules) (events : List ℕ → Option MacroNo) (run : List PpToken) → (all : Expanded) × IsExpansion rules_at events run all }
+{}
+
+/// The tokens of a run without macro names are the run, without a fault and a use.
+pub fn plain_run()
+    ensures { (rules_at : Span → Rules) (events : List ℕ → Option MacroNo) (run : List PpToken) (all : Expanded) → All (IsPlain rules_at) run → IsExpansion rules_at events run all → (all.tokens ≡ run) × (all.faults ≡ []) × (all.uses ≡ []) }
 {}
 
 /// There is a function that tells of each spelling whether it is one token, and of which kind.

@@ -7,6 +7,8 @@ mod conditions;
 #[cfg(test)]
 mod copies;
 #[cfg(test)]
+mod definitions;
+#[cfg(test)]
 mod header_sources;
 #[cfg(test)]
 mod large;

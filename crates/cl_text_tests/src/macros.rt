@@ -1,9 +1,10 @@
 use crate::replaced::REPLACED;
 use cl_base::{
-    BodyToken, Duplicate, LineTable, List, Macro, Mem, Memory, Path, PpToken, Span, Token,
+    BodyToken, Duplicate, EmptyBase, LineTable, List, Macro, Mem, Memory, Path, PpToken, Span,
+    Token,
 };
 use cl_lex::lex;
-use cl_macro::{Expansion, MacroTable, Told};
+use cl_macro::{Defined, Expanded, MacroTable};
 use std::alloc::Global;
 use std::mem;
 use std::test::Fail;
@@ -63,12 +64,12 @@ fn table_of(alloc: Global, defines: &str) -> Mem<MacroTable> {
         if token.first && !line.is_empty() {
             let whole = mem::replace(&mut line, List::new(alloc));
             let mac = macro_of(alloc, whole.as_slice())?;
-            table.set(alloc, mac)?;
+            table.define(alloc, &EmptyBase, mac)?;
         }
         line.push(token.duplicate(alloc)?)?;
     }
     let mac = macro_of(alloc, line.as_slice())?;
-    table.set(alloc, mac)?;
+    table.define(alloc, &EmptyBase, mac)?;
     Ok(table)
 }
 
@@ -93,16 +94,16 @@ fn run_of(alloc: Global, text: &[u8]) -> Mem<List<PpToken>> {
     Ok(run)
 }
 
-fn expansion(alloc: Global, table: &MacroTable, text: &[u8]) -> Mem<Expansion> {
+fn expansion(alloc: Global, table: &MacroTable, text: &[u8]) -> Mem<Expanded> {
     let run = run_of(alloc, text)?;
     let path = Path::new(alloc, "/a\"b.c")?;
     let lines = LineTable::new(alloc, text)?;
-    let all = table.expand(alloc, run.as_slice(), &path, &lines)?;
+    let all = table.expand(alloc, &EmptyBase, run.as_slice(), &path, &lines)?;
     Ok(all)
 }
 
 /// The tokens by their spellings, with a space where white space stands.
-fn shown(alloc: Global, all: &Expansion) -> Mem<String> {
+fn shown(alloc: Global, all: &Expanded) -> Mem<String> {
     let mut shown = Vec::new(alloc);
     for token in all.tokens.as_slice() {
         if token.space && !shown.is_empty() {
@@ -124,32 +125,18 @@ fn spellings(alloc: Global, tokens: &[PpToken]) -> Mem<Vec<u8>> {
     Ok(all)
 }
 
-/// What is told, but for look-ups.
-fn told_of(alloc: Global, all: &Expansion) -> Mem<String> {
+/// The faults, and then the uses.
+fn told_of(alloc: Global, all: &Expanded) -> Mem<String> {
     let mut text = String::new(alloc);
-    for told in all.told.as_slice() {
-        match told {
-            Told::Faulty(number, at) => {
-                let one = format!(in alloc; "!{number}@{}-{} ", at.from, at.to)?;
-                text.push_str(one.as_str())?;
-            }
-            Told::Used(_, at, before) => {
-                let one = format!(in alloc; "{}-{}:{before} ", at.from, at.to)?;
-                text.push_str(one.as_str())?;
-            }
-            Told::Looked(_) => {}
-        }
+    for fault in all.faults.as_slice() {
+        let one = format!(in alloc; "!{}@{}-{} ", fault.number, fault.at.from, fault.at.to)?;
+        text.push_str(one.as_str())?;
+    }
+    for used in all.uses.as_slice() {
+        let one = format!(in alloc; "{}-{}:{} ", used.at.from, used.at.to, used.before)?;
+        text.push_str(one.as_str())?;
     }
     Ok(text)
-}
-
-/// How many faults are told.
-fn faults_of(all: &Expansion) -> usize {
-    all.told
-        .as_slice()
-        .iter()
-        .filter(|told| matches!(**told, Told::Faulty(_, _)))
-        .count()
 }
 
 /// Sixteen macros, each twice the one before.
@@ -172,7 +159,7 @@ fn as_many_replacements_as_there_may_be(rt: HostRuntime) -> Result<(), Fail> {
     let alloc = rt.alloc();
     let table = doublings(alloc)?;
     let whole = expansion(alloc, &table, b"a15".as_slice())?;
-    assert!(rt; whole.tokens.len() == 32_768 && faults_of(&whole) == 0);
+    assert!(rt; whole.tokens.len() == 32_768 && whole.faults.is_empty());
     let large = expansion(alloc, &table, b"x b a3".as_slice())?;
     assert!(rt; large.tokens.len() == 10);
     let told = told_of(alloc, &large)?;
@@ -197,7 +184,7 @@ fn long_runs_and_deep_invocations(rt: HostRuntime) -> Result<(), Fail> {
         text.push(b')')?;
     }
     let all = expansion(alloc, &table, text.as_slice())?;
-    assert!(rt; all.tokens.len() == 30_001 && faults_of(&all) == 0);
+    assert!(rt; all.tokens.len() == 30_001 && all.faults.is_empty());
     Ok(())
 }
 
@@ -210,14 +197,49 @@ fn definitions_come_and_go(rt: HostRuntime) -> Result<(), Fail> {
     let all = expansion(alloc, &table, text)?;
     let found = shown(alloc, &all)?;
     assert!(rt; found.as_str() == "3 2 z", "{found}");
+    let mut events = all.uses.as_slice().iter().map(|used| used.no.0);
+    assert!(rt; events.next() == Some(2) && events.next() == Some(1));
     let run = run_of(alloc, text)?;
     for token in run.as_slice() {
-        table.undef(&token.text);
-        assert!(rt; table.find(&token.text).is_none());
+        table.undef(alloc, &token.text)?;
+        let found = table.find(alloc, &EmptyBase, &token.text)?;
+        assert!(rt; found.is_none());
     }
     let all = expansion(alloc, &table, text)?;
     let found = shown(alloc, &all)?;
-    assert!(rt; found.as_str() == "x y z", "{found}");
+    assert!(rt; found.as_str() == "x y z" && table.events() == 6, "{found}");
+    Ok(())
+}
+
+/// What a definition is, after these.
+fn defined(alloc: Global, defines: &str, line: &str) -> Mem<Defined> {
+    let mut table = table_of(alloc, defines)?;
+    let lexed = lex(alloc, line.as_bytes())?;
+    let mac = macro_of(alloc, lexed.tokens.as_slice())?;
+    let answer = table.define(alloc, &EmptyBase, mac)?;
+    Ok(answer)
+}
+
+#[test]
+fn what_a_definition_is(rt: HostRuntime) -> Result<(), Fail> {
+    let alloc = rt.alloc();
+    let rows: [(&str, &str, u8); 7] = [
+        ("g(a) f(a)", "f(a) a*g", 0),
+        ("f(a) a*g", "f(a) a*g", 1),
+        ("f(a) a*g", "f(a) a * g", 2),
+        ("f(a) a*g", "f(b) b*g", 2),
+        ("x (1-1)", "x  (1-1)", 1),
+        ("x (1-1)", "x (0)", 2),
+        ("v(...) a", "v(a) a", 2),
+    ];
+    for (defines, line, wanted) in rows {
+        let found = match defined(alloc, defines, line)? {
+            Defined::New => 0,
+            Defined::Same => 1,
+            Defined::Replaced { old: _ } => 2,
+        };
+        assert!(rt; found == wanted, "{line} after {defines}");
+    }
     Ok(())
 }
 
@@ -231,15 +253,15 @@ fn faults_uses_and_white_space(rt: HostRuntime) -> Result<(), Fail> {
             "f(a) [a]\ng(a) a",
             "f(g(1,2) 3)",
             "[g(1,2) 3]",
-            "0-1:0 !19@0-11 !19@0-11 ",
+            "!19@0-11 !19@0-11 0-1:0 ",
         ),
         (
             "f(a,b) a##b",
             "f(<,x) f(1,2)",
             "<x 12",
-            "0-1:0 !21@0-6 7-8:2 ",
+            "!21@0-6 0-1:0 7-8:2 ",
         ),
-        ("f(a,b) a ## b", "f( + , - )", "+-", "0-1:0 !21@0-10 "),
+        ("f(a,b) a ## b", "f( + , - )", "+-", "!21@0-10 0-1:0 "),
         (
             "l __LINE__",
             "l\n\nl\r\nl",
