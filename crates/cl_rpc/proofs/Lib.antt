@@ -1,3 +1,2 @@
-pub mod LossyLemmas
 pub mod MessageLemmas
 pub mod ReplyLemmas

@@ -1,4 +1,3 @@
 pub mod Classes
-pub mod Lossy
 pub mod Messages
 pub mod Replies

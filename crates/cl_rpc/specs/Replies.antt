@@ -16,7 +16,7 @@ use Rattle.cl_rpc.specs.declared.id.Id.TheVariants as id
 use Rattle.cl_rpc.specs.declared.out.Out.{Out}
 use Rattle.cl_rpc.specs.declared.out.Out.TheVariants as out
 use Rattle.cl_rpc.specs.declared.out.Reply.{Reply}
-use Rattle.cl_rpc.specs.Lossy.{shown}
+use Rattle.cl_lossy.specs.Lossy.{shown}
 
 abbrev pub count_data : ℕ → Data
 count_data n = number (unsigned n)

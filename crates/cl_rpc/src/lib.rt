@@ -5,7 +5,6 @@ mod call;
 mod class;
 mod id;
 mod json;
-mod lossy;
 mod message;
 mod message_call;
 mod message_changes;

@@ -5,7 +5,7 @@ ghost use Rattle.serde_json.specs.Written.{compact_text};
 ghost use Rattle.cl_rpc.specs.Replies.{Adds, text_data, id_data};
 
 use crate::id::Id;
-use crate::lossy::shown;
+use cl_lossy::shown;
 use cl_base::{Mem, Text};
 use itoa::Buffer;
 use serde_json::Value;

@@ -9,6 +9,8 @@ mod copies;
 #[cfg(test)]
 mod definitions;
 #[cfg(test)]
+mod diagnostics;
+#[cfg(test)]
 mod header_sources;
 #[cfg(test)]
 mod large;

@@ -8,7 +8,7 @@ use Rattle.std.specs.Char.{IsScalar}
 use Rattle.std.specs.Str.{IsUtf8, is_utf8, IsValidUpTo, chars}
 use Rattle.std.specs.Str.Lossy.{replacement_bytes}
 use lib.Utf8.{scalar, scalars, encode, encodes}
-use Rattle.cl_rpc.specs.Lossy.{character_length, shown_after, shown}
+use Rattle.cl_lossy.specs.Lossy.{character_length, shown_after, shown}
 
 false_unless : (bs : List ℕ) → ¬ (IsUtf8 bs) → is_utf8 bs ≡ false
 false_unless bs h = elim (is_utf8 bs) as (λ b. (b ≡ true → IsUtf8 bs) → b ≡ false) [ true ↦ λ f. absurd (h (f refl)) | false ↦ λ f. refl ] (IsUtf8-from_is_utf8 bs)

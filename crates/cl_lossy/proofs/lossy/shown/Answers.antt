@@ -1,8 +1,8 @@
 use Rattle.std.proofs.Common.{◌≡◌, ◌++◌, ◌∙◌, ap, string_bytes, take, drop, List, ℕ}
 use Rattle.std.specs.Str.{valid_up_to}
 use Rattle.std.specs.Str.Lossy.{replacement_bytes}
-use Rattle.cl_rpc.proofs.LossyLemmas.{shown_ends, shown_goes_on}
-use Rattle.cl_rpc.proofs.lossy.shown.Goals as goal
+use Rattle.cl_lossy.proofs.LossyLemmas.{shown_ends, shown_goes_on}
+use Rattle.cl_lossy.proofs.lossy.shown.Goals as goal
 
 pub returns-in-Ok : goal.returns-in-Ok
 returns-in-Ok c =

@@ -1,6 +1,8 @@
+//! Bytes as text.
+
 ghost use Rattle.std.specs.Prelude.{◌≡◌, IfOk, OnOk, ◌++◌, string_bytes};
 ghost use Rattle.std.specs.Str.{IsUtf8};
-ghost use Rattle.cl_rpc.specs.Lossy.{shown};
+ghost use Rattle.cl_lossy.specs.Lossy.{shown};
 
 use cl_base::Mem;
 use std::alloc::Global;

@@ -1,0 +1,4 @@
+pub mod Severity
+pub mod Texts
+pub mod Order
+pub mod code

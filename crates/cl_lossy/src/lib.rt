@@ -1,0 +1,6 @@
+//! Bytes shown as text.
+#![tactic(auto)]
+
+mod lossy;
+
+pub use lossy::shown;
