@@ -2,4 +2,5 @@ mod Forks
 mod Put
 mod Row
 mod Same
+mod Search
 mod Within

@@ -1,3 +1,4 @@
 pub mod code
 pub mod Headers
 pub mod Maps
+pub mod Resolving

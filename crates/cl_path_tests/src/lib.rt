@@ -4,4 +4,6 @@
 #[cfg(test)]
 mod normal_forms;
 #[cfg(test)]
+mod searches;
+#[cfg(test)]
 mod uris;
