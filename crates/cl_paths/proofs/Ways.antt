@@ -19,7 +19,7 @@ both b t f = cc
 
 -- ---- one part more
 
-not_up : (part : Part) → IsName part → bytes_eq part up ≡ false
+pub not_up : (part : Part) → IsName part → bytes_eq part up ≡ false
 not_up part h = false_from_ne_true _ (λ e. h.down ((bytes_eq-Decides part up).0 e))
 
 not_idle : (part : Part) → IsName part → is_idle part ≡ false
@@ -96,7 +96,7 @@ name_leads P rooted past ps part p n h =
     (subst (λ z. SameWay rooted (reverse past ++ part ∷ ps) z) (sym (moved part past ps)) (same _), ((p, inl n), h))
 
 -- a part is empty, `.`, `..` or a name
-kinds : (part : Part) → (part ≡ []) ⊎ ((part ≡ here) ⊎ ((part ≡ up) ⊎ IsName part))
+pub kinds : (part : Part) → (part ≡ []) ⊎ ((part ≡ here) ⊎ ((part ≡ up) ⊎ IsName part))
 kinds part =
     ⊎_elim (λ e. inl ((bytes_eq-Decides part []).0 e))
     (λ a. ⊎_elim (λ e. inr (inl ((bytes_eq-Decides part here).0 e)))

@@ -1,5 +1,5 @@
 -- When two paths name one place: by these rules alone, whatever the file system has there.
-use Rattle.std.specs.Prelude.{◌≡◌, Bool, true, List, [], ◌∷◌, ◌++◌, ℕ}
+use Rattle.std.specs.Prelude.{◌≡◌, ◌⊎◌, Bool, true, false, List, [], ◌∷◌, ◌++◌, ℕ}
 use Rattle.cl_paths.specs.Parts.{here, up, parts, is_rooted}
 
 -- a part that leads down
@@ -7,6 +7,16 @@ pub record IsName (part : List ℕ) : Type 0 where
   pub full : part ≡ [] → ⊥
   pub other : part ≡ here → ⊥
   pub down : part ≡ up → ⊥
+
+abbrev pub AreNames : List (List ℕ) → Type 0
+AreNames [] = Unit {0}
+AreNames (part ∷ ps) = IsName part × AreNames ps
+
+-- the parts of a normal form: names, and before them any `..`, but none where the path begins at the root
+abbrev pub IsNormal : Bool → List (List ℕ) → Type 0
+IsNormal true ps = AreNames ps
+IsNormal false [] = Unit {0}
+IsNormal false (part ∷ ps) = ((part ≡ up) × IsNormal false ps) ⊎ AreNames (part ∷ ps)
 
 -- two lists of parts that lead to one place, from the root or from elsewhere
 pub data SameWay (rooted : Bool) : List (List ℕ) → List (List ℕ) → Type 0 where

@@ -8,15 +8,11 @@ use Rattle.std.proofs.lemmas.Str.{is_utf8-from_IsUtf8, IsUtf8-from_is_utf8}
 use Rattle.serde_json.specs.declared.value.Value.{Value}
 use Rattle.serde_json.specs.View.{view, items_view}
 use Rattle.serde_json.specs.Read.{read}
-use Rattle.cl_rpc.specs.Messages.{text_in, each_has_text, each_names_a_file, file_in, last_text, value_in}
+use Rattle.cl_rpc.specs.Messages.{text_in, each_has_text, last_text, value_in}
 
 pub each_has_text_is : (vs : List Value) → list_all (λ (v : Value). is_some (text_in (codes "text") (view v))) vs ≡ each_has_text (items_view vs)
 each_has_text_is [] = refl
 each_has_text_is (v ∷ vs) = ap (λ b. is_some (text_in (codes "text") (view v)) && b) (each_has_text_is vs)
-
-pub each_names_is : (vs : List Value) → list_all (λ (v : Value). is_some (file_in (view v))) vs ≡ each_names_a_file (items_view vs)
-each_names_is [] = refl
-each_names_is (v ∷ vs) = ap (λ b. is_some (file_in (view v)) && b) (each_names_is vs)
 
 pub last_text_is : (vs : List Value) → option_and_then (λ (v : Value). text_in (codes "text") (view v)) (slice_get vs (length vs - 1)) ≡ last_text (items_view vs)
 last_text_is [] = refl

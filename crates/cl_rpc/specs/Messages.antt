@@ -1,10 +1,10 @@
 -- What a body is: JSON-RPC 2.0, sections 4 and 5, with the methods of LSP 3.17 that are known.
-use Rattle.std.specs.Prelude.{ℕ, ℤ, negsuc, ◌&&◌, nat_eq, nat_lt, List, [], ◌++◌, Bool, true, false, if◌then◌else◌, Option, Some, None, codes, option_map, option_and_then, option_to_list, is_some}
+use Rattle.std.specs.Prelude.{ℕ, ℤ, negsuc, ◌&&◌, nat_lt, List, [], ◌∷◌, Bool, true, false, if◌then◌else◌, Option, Some, None, codes, option_map, option_and_then, is_some}
 use Rattle.std.specs.Str.{is_utf8, bytes_eq}
-use Rattle.std.specs.List.{starts_with}
 use Rattle.serde_json.specs.Data.{Data, null, boolean, number, string, array, object, Items, no_items, item}
 use Rattle.serde_json.specs.Find.{get, as_str, as_number, as_i64, as_u64, as_array, as_object}
 use Rattle.serde_json.specs.Read.{read}
+use Rattle.cl_paths.specs.Uris.{path_in}
 use Rattle.cl_rpc.specs.declared.id.Id.{Id}
 use Rattle.cl_rpc.specs.declared.id.Id.TheVariants as id
 use Rattle.cl_rpc.specs.declared.call.Call.{Call}
@@ -44,15 +44,13 @@ params_in d = get (codes "params") d
 abbrev pub document_in : Data → Option Data
 document_in d = option_and_then (get (codes "textDocument")) (params_in d)
 
-abbrev pub is_file_uri : List ℕ → Bool
-is_file_uri uri = starts_with nat_eq uri (codes "file:///")
+-- the path that a member names as a `file` URI
+abbrev pub path_at : List ℕ → Data → Option (List ℕ)
+path_at key d = option_and_then path_in (text_in key d)
 
--- the value where it passes the test
-abbrev pub only_if : (List ℕ → Bool) → List ℕ → Option (List ℕ)
-only_if test s = if test s then Some s else None
-
-abbrev pub uri_in : Data → Option (List ℕ)
-uri_in d = option_and_then (only_if is_file_uri) (option_and_then (text_in (codes "uri")) (document_in d))
+-- a document is named by the path of its URI, so two URIs of one path are one document
+abbrev pub document_path : Data → Option (List ℕ)
+document_path d = option_and_then (path_at (codes "uri")) (document_in d)
 
 abbrev pub version_in : Data → Option ℤ
 version_in d = option_and_then (whole_in (codes "version")) (document_in d)
@@ -84,19 +82,19 @@ changed_text ds = if each_has_text ds then Some (last_text ds) else None
 -- ---- the calls, each from the members that it takes
 
 abbrev pub opened : Option (List ℕ) → Option ℤ → Option (List ℕ) → Call
-opened (Some uri) (Some version) (Some text) = call.DidOpen uri version text
+opened (Some path) (Some version) (Some text) = call.DidOpen path version text
 opened _ _ _ = call.BadParams false
 
 abbrev pub changed : Option (List ℕ) → Option ℤ → Option (Option (List ℕ)) → Call
-changed (Some uri) (Some version) (Some text) = call.DidChange uri version text
+changed (Some path) (Some version) (Some text) = call.DidChange path version text
 changed _ _ _ = call.BadParams false
 
 abbrev pub closed : Option (List ℕ) → Call
-closed (Some uri) = call.DidClose uri
+closed (Some path) = call.DidClose path
 closed None = call.BadParams false
 
 abbrev pub symbols : Option (List ℕ) → Call
-symbols (Some uri) = call.Symbols uri
+symbols (Some path) = call.Symbols path
 symbols None = call.BadParams false
 
 abbrev pub cancelled_in : Data → Option Id
@@ -112,22 +110,15 @@ kind_in d = option_and_then as_u64 (option_and_then as_number (get (codes "type"
 
 -- the file that a watched change names
 abbrev pub file_in : Data → Option (List ℕ)
-file_in d = if is_kind_of_change (kind_in d) then option_and_then (only_if is_file_uri) (text_in (codes "uri") d) else None
+file_in d = if is_kind_of_change (kind_in d) then path_at (codes "uri") d else None
 
 abbrev pub watched_in : Data → Option Items
 watched_in d = option_and_then as_array (option_and_then (get (codes "changes")) (params_in d))
 
-abbrev pub each_names_a_file : Items → Bool
-each_names_a_file no_items = true
-each_names_a_file (item d ds) = is_some (file_in d) && each_names_a_file ds
-
--- the files that watched changes name, in order
-abbrev pub files_in : Items → List (List ℕ)
-files_in no_items = []
-files_in (item d ds) = option_to_list (file_in d) ++ files_in ds
-
+-- the files that watched changes name, in order, where each names one
 abbrev pub watched_paths : Items → Option (List (List ℕ))
-watched_paths ds = if each_names_a_file ds then Some (files_in ds) else None
+watched_paths no_items = Some []
+watched_paths (item d ds) = option_and_then (λ path. option_map (λ paths. path ∷ paths) (watched_paths ds)) (file_in d)
 
 abbrev pub watched : Option (List (List ℕ)) → Call
 watched (Some paths) = call.Watched paths
@@ -163,7 +154,7 @@ method_named name =
 abbrev pub request_call : Method → Data → Call
 request_call method.Initialize d = initialize (has_params_object d)
 request_call method.Shutdown d = call.Shutdown
-request_call method.Symbols d = symbols (uri_in d)
+request_call method.Symbols d = symbols (document_path d)
 request_call method.Exit d = call.Unknown
 request_call method.DidOpen d = call.Unknown
 request_call method.DidChange d = call.Unknown
@@ -175,9 +166,9 @@ request_call method.Other d = call.Unknown
 -- a notification of a method, where it is a notification's
 abbrev pub notified_call : Method → Data → Option Call
 notified_call method.Exit d = Some call.Exit
-notified_call method.DidOpen d = Some (opened (uri_in d) (version_in d) (opened_text_in d))
-notified_call method.DidChange d = Some (changed (uri_in d) (version_in d) (option_and_then changed_text (changes_in d)))
-notified_call method.DidClose d = Some (closed (uri_in d))
+notified_call method.DidOpen d = Some (opened (document_path d) (version_in d) (opened_text_in d))
+notified_call method.DidChange d = Some (changed (document_path d) (version_in d) (option_and_then changed_text (changes_in d)))
+notified_call method.DidClose d = Some (closed (document_path d))
 notified_call method.Cancel d = Some (cancel (cancelled_in d))
 notified_call method.Watched d = Some (watched (option_and_then watched_paths (watched_in d)))
 notified_call method.Initialize d = None

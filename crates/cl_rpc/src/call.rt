@@ -1,7 +1,7 @@
 use crate::id::Id;
 use cl_base::{List, Path, Text};
 
-/// What a request or a notification asks for (LSP 3.17). A `Path` holds the text of a document's URI.
+/// What a request or a notification asks for (LSP 3.17). A document is named by the path of its URI.
 #[derive(Drop)]
 pub enum Call {
     /// The first request of a session.
@@ -10,19 +10,19 @@ pub enum Call {
     Shutdown,
     /// The notification that ends the process.
     Exit,
-    /// A document was opened: its URI, its version and its text.
+    /// A document was opened: its path, its version and its text.
     DidOpen(Path, i64, Text),
-    /// A document was changed: its URI, its new version and its whole new text, the last of the
+    /// A document was changed: its path, its new version and its whole new text, the last of the
     /// message's list. The text is `None` where that list is empty.
     DidChange(Path, i64, Option<Text>),
-    /// The document of this URI was closed.
+    /// The document of this path was closed.
     DidClose(Path),
     /// The request of this id is no longer wanted.
     Cancel(Id),
-    /// The files of these URIs changed on disk, in the order of the message
+    /// The files of these paths changed on disk, in the order of the message
     /// (workspace/didChangeWatchedFiles).
     Watched(List<Path>),
-    /// The request for the symbols of the document of this URI.
+    /// The request for the symbols of the document of this path.
     Symbols(Path),
     /// A request of another method.
     Unknown,

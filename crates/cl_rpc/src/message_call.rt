@@ -1,13 +1,15 @@
 ghost use Rattle.std.specs.Prelude.{◌≡◌, IfOk, option_and_then};
 ghost use Rattle.serde_json.specs.View.{view};
-ghost use Rattle.cl_rpc.specs.Messages.{opened, changed, closed, cancel, symbols, uri_in, version_in, opened_text_in, cancelled_in, changes_in, changed_text, watched as watched_call, watched_paths, watched_in, request_call, notified_call, notified as notified_parsed};
+ghost use Rattle.cl_rpc.specs.Messages.{opened, changed, closed, cancel, symbols, document_path, version_in, opened_text_in, cancelled_in, changes_in, changed_text, watched as watched_call, watched_paths, watched_in, request_call, notified_call, notified as notified_parsed};
 
 use crate::call::{Call, Parsed};
 use crate::message_changes::changed_text_at;
 use crate::message_method::Method;
-use crate::message_params::{cancelled_at, has_params_object, opened_text_at, uri_at, version_at};
+use crate::message_params::{
+    cancelled_at, document_path, has_params_object, opened_text_at, version_at,
+};
 use crate::message_watched::watched_paths_at;
-use cl_base::{Mem, Path, Text};
+use cl_base::{Mem, Text};
 use serde_json::Value;
 use std::alloc::Global;
 
@@ -57,19 +59,18 @@ pub fn notified(alloc: Global, method: Method, value: &Value) -> Mem<Parsed>
 }
 
 fn symbols_call(alloc: Global, value: &Value) -> Mem<Call>
-    ensures { IfOk result (λ call. call ≡ symbols (uri_in (view value.now))) }
+    ensures { IfOk result (λ call. call ≡ symbols (document_path (view value.now))) }
 {
-    let Some(uri) = uri_at(value) else {
+    let Some(path) = document_path(alloc, value)? else {
         return Ok(Call::BadParams(false));
     };
-    let path = Path::new(alloc, uri)?;
     Ok(Call::Symbols(path))
 }
 
 fn open_call(alloc: Global, value: &Value) -> Mem<Call>
-    ensures { IfOk result (λ call. call ≡ opened (uri_in (view value.now)) (version_in (view value.now)) (opened_text_in (view value.now))) }
+    ensures { IfOk result (λ call. call ≡ opened (document_path (view value.now)) (version_in (view value.now)) (opened_text_in (view value.now))) }
 {
-    let Some(uri) = uri_at(value) else {
+    let Some(path) = document_path(alloc, value)? else {
         return Ok(Call::BadParams(false));
     };
     let Some(version) = version_at(value) else {
@@ -78,15 +79,14 @@ fn open_call(alloc: Global, value: &Value) -> Mem<Call>
     let Some(text) = opened_text_at(value) else {
         return Ok(Call::BadParams(false));
     };
-    let path = Path::new(alloc, uri)?;
     let text = Text::new(alloc, text.as_bytes())?;
     Ok(Call::DidOpen(path, version, text))
 }
 
 fn change_call(alloc: Global, value: &Value) -> Mem<Call>
-    ensures { IfOk result (λ call. call ≡ changed (uri_in (view value.now)) (version_in (view value.now)) (option_and_then changed_text (changes_in (view value.now)))) }
+    ensures { IfOk result (λ call. call ≡ changed (document_path (view value.now)) (version_in (view value.now)) (option_and_then changed_text (changes_in (view value.now)))) }
 {
-    let Some(uri) = uri_at(value) else {
+    let Some(path) = document_path(alloc, value)? else {
         return Ok(Call::BadParams(false));
     };
     let Some(version) = version_at(value) else {
@@ -95,17 +95,15 @@ fn change_call(alloc: Global, value: &Value) -> Mem<Call>
     let Some(text) = changed_text_at(alloc, value)? else {
         return Ok(Call::BadParams(false));
     };
-    let path = Path::new(alloc, uri)?;
     Ok(Call::DidChange(path, version, text))
 }
 
 fn close_call(alloc: Global, value: &Value) -> Mem<Call>
-    ensures { IfOk result (λ call. call ≡ closed (uri_in (view value.now))) }
+    ensures { IfOk result (λ call. call ≡ closed (document_path (view value.now))) }
 {
-    let Some(uri) = uri_at(value) else {
+    let Some(path) = document_path(alloc, value)? else {
         return Ok(Call::BadParams(false));
     };
-    let path = Path::new(alloc, uri)?;
     Ok(Call::DidClose(path))
 }
 

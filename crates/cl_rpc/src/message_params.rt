@@ -1,10 +1,11 @@
 ghost use Rattle.std.specs.Prelude.{◌≡◌, IfOk, option_map};
 ghost use Rattle.serde_json.specs.View.{view};
-ghost use Rattle.cl_rpc.specs.Messages.{as_id, id_in, document_in, has_params_object, uri_in, version_in, is_file_uri, opened_text_in, cancelled_in};
+ghost use Rattle.cl_rpc.specs.Messages.{as_id, id_in, document_in, has_params_object, document_path, path_at, version_in, opened_text_in, cancelled_in};
 
 use crate::id::Id;
 use crate::json::{text_at, whole_at};
-use cl_base::{Mem, Text};
+use cl_base::{Mem, Path, Text};
+use cl_paths::path_of_uri;
 use serde_json::Value;
 use std::alloc::Global;
 
@@ -54,20 +55,30 @@ fn document_at(value: &Value) -> Option<&Value>
         .and_then(|params| params.get("textDocument"))
 }
 
-/// The document's URI, where it is that of a file.
-pub fn uri_at(value: &Value) -> Option<&str>
-    ensures { option_map (λ s. s.now) result ≡ uri_in (view value.now) }
+/// The path of the document that the params name, where its URI names one.
+pub fn document_path(alloc: Global, value: &Value) -> Mem<Option<Path>>
+    ensures { IfOk result (λ path. path ≡ document_path (view value.now)) }
 {
-    let document = document_at(value)?;
-    let uri = text_at(document, "uri")?;
-    if is_file_uri(uri) { Some(uri) } else { None }
+    match document_at(value) {
+        Some(document) => {
+            let path = path_at(alloc, document, "uri")?;
+            Ok(path)
+        }
+        None => Ok(None),
+    }
 }
 
-/// Whether a URI is that of a file.
-pub fn is_file_uri(uri: &str) -> bool
-    ensures { result ≡ is_file_uri uri.now }
+/// The path that a member names as a `file` URI.
+pub fn path_at(alloc: Global, value: &Value, key: &str) -> Mem<Option<Path>>
+    ensures { IfOk result (λ path. path ≡ path_at key.now (view value.now)) }
 {
-    uri.as_bytes().starts_with(b"file:///".as_slice())
+    match text_at(value, key) {
+        Some(uri) => {
+            let path = path_of_uri(alloc, uri)?;
+            Ok(path)
+        }
+        None => Ok(None),
+    }
 }
 
 /// The document's version.

@@ -86,7 +86,7 @@ fn opened(alloc: Global) -> Mem<String> {
         alloc,
         "{\"jsonrpc\":\"2.0\",\"method\":\"textDocument/didOpen\",\"params\":{\"textDocument\":{\"uri\":\"file:///",
     )?;
-    add(&mut body, 'n', NAME - 8)?;
+    add(&mut body, 'n', NAME - 1)?;
     body.push_str("\",\"version\":7,\"text\":\"")?;
     add(&mut body, 't', BODY)?;
     body.push_str("\"}}}")?;

@@ -120,3 +120,27 @@ pub fn five_documents() -> &'static str {
 > {\"jsonrpc\":\"2.0\",\"method\":\"exit\"}
 "
 }
+
+/// Two and more URIs of one document, and URIs that name no path.
+pub fn two_uris() -> &'static str {
+    "> {\"jsonrpc\":\"2.0\",\"id\":1,\"method\":\"initialize\",\"params\":{}}
+< {\"id\":1,\"jsonrpc\":\"2.0\",\"result\":{\"capabilities\":{\"documentSymbolProvider\":true,\"textDocumentSync\":1},\"serverInfo\":{\"name\":\"clsd\"}}}
+> {\"jsonrpc\":\"2.0\",\"method\":\"textDocument/didOpen\",\"params\":{\"textDocument\":{\"uri\":\"file:///p/a%20b.c\",\"version\":1,\"text\":\"int a;\"}}}
+> {\"jsonrpc\":\"2.0\",\"id\":2,\"method\":\"textDocument/documentSymbol\",\"params\":{\"textDocument\":{\"uri\":\"FILE://localhost/p//x/../a b.c?q#f\"}}}
+< {\"id\":2,\"jsonrpc\":\"2.0\",\"result\":[{\"kind\":13,\"name\":\"a\",\"range\":{\"end\":{\"character\":6,\"line\":0},\"start\":{\"character\":0,\"line\":0}},\"selectionRange\":{\"end\":{\"character\":5,\"line\":0},\"start\":{\"character\":4,\"line\":0}}}]}
+> {\"jsonrpc\":\"2.0\",\"method\":\"textDocument/didChange\",\"params\":{\"textDocument\":{\"uri\":\"file:/p/./a%20b.c\",\"version\":2},\"contentChanges\":[{\"text\":\"int b;\"}]}}
+> {\"jsonrpc\":\"2.0\",\"id\":3,\"method\":\"textDocument/documentSymbol\",\"params\":{\"textDocument\":{\"uri\":\"file:///p/a%20b.c\"}}}
+< {\"id\":3,\"jsonrpc\":\"2.0\",\"result\":[{\"kind\":13,\"name\":\"b\",\"range\":{\"end\":{\"character\":6,\"line\":0},\"start\":{\"character\":0,\"line\":0}},\"selectionRange\":{\"end\":{\"character\":5,\"line\":0},\"start\":{\"character\":4,\"line\":0}}}]}
+> {\"jsonrpc\":\"2.0\",\"id\":4,\"method\":\"textDocument/documentSymbol\",\"params\":{\"textDocument\":{\"uri\":\"file:///p/a%2520b.c\"}}}
+< {\"error\":{\"code\":-32602,\"message\":\"invalid params\"},\"id\":4,\"jsonrpc\":\"2.0\"}
+> {\"jsonrpc\":\"2.0\",\"id\":5,\"method\":\"textDocument/documentSymbol\",\"params\":{\"textDocument\":{\"uri\":\"file://host/p/a%20b.c\"}}}
+< {\"error\":{\"code\":-32602,\"message\":\"invalid params\"},\"id\":5,\"jsonrpc\":\"2.0\"}
+> {\"jsonrpc\":\"2.0\",\"method\":\"textDocument/didOpen\",\"params\":{\"textDocument\":{\"uri\":\"untitled:a.c\",\"version\":1,\"text\":\"int c;\"}}}
+> {\"jsonrpc\":\"2.0\",\"id\":6,\"method\":\"textDocument/documentSymbol\",\"params\":{\"textDocument\":{\"uri\":\"untitled:a.c\"}}}
+< {\"error\":{\"code\":-32602,\"message\":\"invalid params\"},\"id\":6,\"jsonrpc\":\"2.0\"}
+> {\"jsonrpc\":\"2.0\",\"method\":\"textDocument/didClose\",\"params\":{\"textDocument\":{\"uri\":\"file:///p/%61%20b.c\"}}}
+> {\"jsonrpc\":\"2.0\",\"id\":7,\"method\":\"textDocument/documentSymbol\",\"params\":{\"textDocument\":{\"uri\":\"file:///p/a%20b.c\"}}}
+< {\"error\":{\"code\":-32602,\"message\":\"invalid params\"},\"id\":7,\"jsonrpc\":\"2.0\"}
+> {\"jsonrpc\":\"2.0\",\"method\":\"exit\"}
+"
+}

@@ -116,6 +116,7 @@ fn refusals_and_edits(rt: HostRuntime) -> Result<(), Fail> {
     plays(&rt, alloc, scripts::edits(), 1)?;
     plays(&rt, alloc, scripts::no_exit(), 2)?;
     plays(&rt, alloc, scripts::five_documents(), 0)?;
+    plays(&rt, alloc, scripts::two_uris(), 1)?;
     Ok(())
 }
 
