@@ -11,8 +11,8 @@ mod large;
 #[cfg(test)]
 mod queries;
 #[cfg(test)]
-mod sessions;
-#[cfg(test)]
 mod snapshots;
+#[cfg(test)]
+mod step_rows;
 #[cfg(test)]
 mod steps;

@@ -1,9 +1,10 @@
 //! Worked examples of what a session's core does at each event. In the table a line `new` begins a session, and every
-//! other line is an event with what it must give. `done` and `fail` have the number of a job, from 0. A job is told with
-//! its number, its message, its mark, and its document's version and text; a reply with its message and its mark. `known`
-//! asks what is known of a path, and `length` how many entries the journal has.
+//! other line is an event with what it must give. `ask-text` and `cancel-text` have an id that is a text. `done` and `fail`
+//! have the number of a job, from 0. A job is told with its number, its message, its mark, and its document's version and
+//! text; a reply with its message, its mark and its id. `known` asks what is known of a path, and `length` how many
+//! entries the journal has.
 
-use crate::sessions::{digit_of, keep_jobs, notification, request};
+use crate::step_rows::ROWS;
 use cl_base::{Answer, Config, Duplicate, Known, List, Mem, Path, Text};
 use cl_core::{Core, Effect, Ending, Event};
 use cl_query::{Job, JobAnswer, run_job};
@@ -21,7 +22,7 @@ struct Session {
 fn steps(rt: HostRuntime) -> Result<(), Fail> {
     let alloc = rt.alloc();
     let mut session = fresh(alloc)?;
-    for line in table().lines() {
+    for line in ROWS.lines() {
         if line == "new" {
             session = fresh(alloc)?;
             continue;
@@ -30,6 +31,9 @@ fn steps(rt: HostRuntime) -> Result<(), Fail> {
         let told = given_at(alloc, &mut session, asked)?;
         assert_eq!(rt; told.as_str(), wanted, "{line}");
     }
+    let Session { core, .. } = session;
+    let length = core.journal().len();
+    assert_eq!(rt; core.into_journal().len(), length);
     Ok(())
 }
 
@@ -95,7 +99,12 @@ fn event_of(alloc: Global, jobs: &[Job], word: &str, rest: &str) -> Mem<Event> {
         "shutdown" => request(id, Call::Shutdown),
         "exit" => notification(Call::Exit),
         "ask" => request(id, Call::Symbols(Path::new(alloc, second)?)),
+        "ask-text" => request(
+            text_id(alloc, first)?,
+            Call::Symbols(Path::new(alloc, second)?),
+        ),
         "cancel" => notification(Call::Cancel(id)),
+        "cancel-text" => notification(Call::Cancel(text_id(alloc, first)?)),
         "open" | "change" | "close" | "watched" => {
             notification(document_call(alloc, word, first, digit_of(second), text)?)
         }
@@ -103,6 +112,26 @@ fn event_of(alloc: Global, jobs: &[Job], word: &str, rest: &str) -> Mem<Event> {
         "fail" => end_of(alloc, jobs, digit_of(first), false)?,
         _ => Event::End(Ending::Edge),
     })
+}
+
+fn request(id: Id, call: Call) -> Event {
+    Event::Message(Parsed::Request { id, call })
+}
+
+fn notification(call: Call) -> Event {
+    Event::Message(Parsed::Notification(call))
+}
+
+fn text_id(alloc: Global, text: &str) -> Mem<Id> {
+    let text = Text::new(alloc, text.as_bytes())?;
+    Ok(Id::Text(text))
+}
+
+fn digit_of(text: &str) -> u8 {
+    match text.as_bytes() {
+        [digit, ..] => digit.saturating_sub(48),
+        [] => 0,
+    }
 }
 
 /// What is told of a document.
@@ -138,6 +167,16 @@ fn end_of(alloc: Global, jobs: &[Job], number: u8, is_done: bool) -> Mem<Event> 
     })
 }
 
+/// Keeps the jobs that are started.
+fn keep_jobs(alloc: Global, jobs: &mut Vec<Job>, effects: &[Effect]) -> Mem<()> {
+    for effect in effects {
+        if let Effect::StartJob(job) = effect {
+            jobs.push(job.duplicate(alloc)?)?;
+        }
+    }
+    Ok(())
+}
+
 /// The effects, in order.
 fn told(alloc: Global, effects: &[Effect]) -> Mem<String> {
     let mut line = String::new(alloc);
@@ -161,81 +200,33 @@ fn job_told(alloc: Global, job: &Job) -> Mem<String> {
 
 fn reply_told(alloc: Global, reply: &Reply) -> Mem<String> {
     let (message, mark) = (reply.message, reply.mark);
-    Ok(match &reply.out {
-        Out::Capabilities => format!(in alloc; "{message} at {mark} capabilities.")?,
-        Out::Null => format!(in alloc; "{message} at {mark} null.")?,
-        Out::Error(code) => format!(in alloc; "{message} at {mark} {code}.")?,
+    let id = id_told(alloc, &reply.id)?;
+    let out = out_told(alloc, &reply.out)?;
+    Ok(format!(in alloc; "{message} at {mark} to {id} {out}.")?)
+}
+
+fn id_told(alloc: Global, id: &Option<Id>) -> Mem<String> {
+    Ok(match id {
+        Some(Id::Number(number)) => format!(in alloc; "{number}")?,
+        Some(Id::Text(text)) => {
+            let text = str::from_utf8(text.bytes()).unwrap_or("?");
+            format!(in alloc; "'{text}'")?
+        }
+        None => String::from_str(alloc, "none")?,
+    })
+}
+
+fn out_told(alloc: Global, out: &Out) -> Mem<String> {
+    Ok(match out {
+        Out::Capabilities => String::from_str(alloc, "capabilities")?,
+        Out::Null => String::from_str(alloc, "null")?,
+        Out::Error(code) => format!(in alloc; "{code}")?,
         Out::Answer(Answer::Symbols(symbols)) => {
             let first = match symbols.get(0) {
                 Some(symbol) => str::from_utf8(symbol.name.bytes()).unwrap_or("?"),
                 None => "none",
             };
-            format!(in alloc; "{message} at {mark} answer {first}.")?
+            format!(in alloc; "answer {first}")?
         }
     })
-}
-
-fn table() -> &'static str {
-    "new
-open /a.c 1 int a; => 
-known /a.c => -
-ask 7 /a.c => 1 at 2 -32002.
-init 1 => 2 at 4 capabilities.
-init 1 => 3 at 6 -32600.
-ask 7 /a.c => 4 at 8 -32602.
-length => 9
-new
-init 1 => 0 at 1 capabilities.
-open /a.c 1 int a; => 
-known /a.c => int a;
-watched /a.c => 
-known /a.c => int a;
-change /b.c 2 int b; => 
-known /b.c => -
-ask 7 /a.c => job 0 of 4 at 6, 1 int a;.
-ask 8 /a.c => job 1 of 5 at 7, 1 int a;.
-change /a.c 9 int b; => 4 at 8 -32801.5 at 9 -32801.
-done 0 => 
-fail 1 => 
-known /a.c => int b;
-ask 7 /a.c => job 2 of 7 at 11, 9 int b;.
-fail 0 => 
-fail 2 => 7 at 11 -32803.
-done 2 => 
-ask 7 /a.c => job 3 of 8 at 13, 9 int b;.
-close /a.c => 
-known /a.c => -
-watched /a.c => 
-open /a.c 1 int c; => 8 at 16 -32801.
-done 3 => 
-known /a.c => int c;
-length => 17
-new
-init 1 => 0 at 1 capabilities.
-open /a.c 1 int a; => 
-open /b.c 3 int b; => 
-ask 1 /a.c => job 0 of 3 at 5, 1 int a;.
-ask 2 /b.c => job 1 of 4 at 6, 3 int b;.
-ask 3 /a.c => job 2 of 5 at 7, 1 int a;.
-change /a.c 2 int x; => 3 at 8 -32801.5 at 9 -32801.
-done 2 => 
-cancel 1 => 
-cancel 2 => 4 at 12 -32800.
-done 1 => 
-exit => finish 1.
-ask 1 /a.c => 
-end => 
-length => 14
-new
-init 1 => 0 at 1 capabilities.
-open /a.c 1 int a; => 
-ask 1 /a.c => job 0 of 2 at 4, 1 int a;.
-ask 2 /a.c => job 1 of 3 at 5, 1 int a;.
-shutdown 3 => 4 at 6 null.
-ask 4 /a.c => 5 at 8 -32600.
-exit => 
-done 1 => 3 at 5 answer a.
-end => 
-done 0 => 2 at 4 answer a.finish 0.
-length => 12"
 }
