@@ -30,13 +30,13 @@ fn a_file_has_at_most_2_to_the_26_bytes(rt: HostRuntime) -> Result<(), Memory> {
 #[test]
 fn settings(rt: HostRuntime) -> Result<(), Fail> {
     let alloc = rt.alloc();
-    let config = config(alloc, "/usr/include").map_err(|_| "memory")?;
-    let copy = config.duplicate(alloc).map_err(|_| "memory")?;
-    let other = config_of_none(alloc).map_err(|_| "memory")?;
+    let config = config(alloc, "/usr/include")?;
+    let copy = config.duplicate(alloc)?;
+    let other = config_of_none(alloc)?;
     assert!(rt; copy.same(&config) && !copy.same(&other));
     assert_eq!(rt; (copy.includes().len(), copy.defines().len()), (1, 1));
     let query = Query::Symbols;
-    assert!(rt; query.duplicate(alloc).map_err(|_| "memory")? == query);
+    assert!(rt; query.duplicate(alloc)? == query);
     Ok(())
 }
 
