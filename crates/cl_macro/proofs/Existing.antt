@@ -10,7 +10,7 @@ use Rattle.cl_macro.specs.Words.{looks}
 use Rattle.cl_macro.specs.Turns.{Turn, Stays, Invokes, Misfits, Open, turn, args_of, set_of, invoking, stay_notes}
 use Rattle.cl_macro.specs.Made.{made, made_notes}
 use Rattle.cl_macro.specs.Params.{asked, raws}
-use Rattle.cl_macro.specs.Replacing.{Works, Each, done, stays, invokes, misfits, open_ended, none, next, Expands, end, whole, large, replacements, settled, span_of, all_told}
+use Rattle.cl_macro.specs.Replacing.{Works, Each, done, stays, invokes, misfits, open_ended, none, next, Expands, end, whole, large, replacements}
 use Rattle.cl_macro.proofs.Shapes.{Staying, Invoked, Misfitting, shape_at, Nexts, each_shape}
 use Rattle.cl_macro.proofs.Unique.{one_works, one_each}
 use Rattle.cl_macro.proofs.Standing.{looks_zero, stay_zero, replacements_more}
@@ -76,6 +76,7 @@ module _ (rules : Rules) where
           nothing_left : (l : List Word) → length l ≤ 0 → l ≡ []
           nothing_left [] h = refl
           nothing_left (w ∷ ws) h = absurd (omega arith)
+
       each_many : (n : ℕ) (arg : List Word) (args : List (List Word)) (s : Few n arg []) → EachMany (n - replacements s.notes) args
           → (full : List (List Word)) (ns : List Note) → Each rules (arg ∷ args) full ns → n < replacements ns
       each_many n arg args s k full ns e =
@@ -109,11 +110,11 @@ module _ (rules : Rules) where
           few = let k = count_of w behind s.notes _ t.notes _ (made_zero rules m (raws m (args_of m behind)) s.full) refl in let a = s.few in let b = t.few in omega arith;
         })
         | inr k ↦ inr (λ out left ns d.
-          let t : Invoked rules w work rest m behind out left ns = shape_at rules (Invokes m behind) w work rest out left ns e d in
-          let p = one_each rules s.each t.full t.inner t.each in
-          let q = k out left t.more (subst (λ (full : List (List Word)). Works rules (On w work rest m behind full) (drop (length behind - length work) rest) out left t.more) (sym p.0) t.works) in
-          let r : replacements s.notes ≡ replacements t.inner = ap replacements p.1 in
-          let c = count_of w behind t.inner _ t.more ns (made_zero rules m (raws m (args_of m behind)) t.full) t.all in omega arith)
+            let t : Invoked rules w work rest m behind out left ns = shape_at rules (Invokes m behind) w work rest out left ns e d in
+            let p = one_each rules s.each t.full t.inner t.each in
+            let q = k out left t.more (subst (λ (full : List (List Word)). Works rules (On w work rest m behind full) (drop (length behind - length work) rest) out left t.more) (sym p.0) t.works) in
+            let r : replacements s.notes ≡ replacements t.inner = ap replacements p.1 in
+            let c = count_of w behind t.inner _ t.more ns (made_zero rules m (raws m (args_of m behind)) t.full) t.all in omega arith)
       ]
 
   by_turn : (bound n : ℕ) → Below bound → n ≤ bound → (w : Word) (work rest : List Word)
@@ -128,7 +129,7 @@ module _ (rules : Rules) where
       few = let k = replacements_more (looks w) s.notes in let z = looks_zero w in let a = s.few in omega arith;
     })
     | inr k ↦ inr (λ out left ns d. let s : Staying rules w work rest out left ns = shape_at rules Stays w work rest out left ns e d in
-      rest_more n (looks w) s.more ns (looks_zero w) (k s.later left s.more s.works) s.all)
+        rest_more n (looks w) s.more ns (looks_zero w) (k s.later left s.more s.works) s.all)
   ]
   by_turn bound n f h w work rest g (Misfits behind) e =
       elim (g (drop (length behind) work) (drop (length behind - length work) rest) (let l = length-drop (length behind) work in omega arith)) [
@@ -140,7 +141,7 @@ module _ (rules : Rules) where
           few = let k = replacements_more (stay_notes 19 w behind) s.notes in let z = stay_zero 19 w behind in let a = s.few in omega arith;
         })
         | inr k ↦ inr (λ out left ns d. let s : Misfitting rules w work rest behind out left ns = shape_at rules (Misfits behind) w work rest out left ns e d in
-          rest_more n (stay_notes 19 w behind) s.more ns (stay_zero 19 w behind) (k s.later left s.more s.works) s.all)
+            rest_more n (stay_notes 19 w behind) s.more ns (stay_zero 19 w behind) (k s.later left s.more s.works) s.all)
       ]
   by_turn bound n f h w work rest g Open e = inl (record {
     out = w ∷ (work ++ rest);
@@ -155,9 +156,9 @@ module _ (rules : Rules) where
   by_turn bound (suc n) f h w work rest g (Invokes m behind) e = elim (each_by bound f (asked m (args_of m behind)) n (omega arith)) [
     | inl s ↦ invoked_by bound n f (omega arith) w work rest m behind e s
     | inr k ↦ inr (λ out left ns d.
-      let t : Invoked rules w work rest m behind out left ns = shape_at rules (Invokes m behind) w work rest out left ns e d in
-      let q = k t.full t.inner t.each in
-      let c = count_of w behind t.inner _ t.more ns (made_zero rules m (raws m (args_of m behind)) t.full) t.all in omega arith)
+        let t : Invoked rules w work rest m behind out left ns = shape_at rules (Invokes m behind) w work rest out left ns e d in
+        let q = k t.full t.inner t.each in
+        let c = count_of w behind t.inner _ t.more ns (made_zero rules m (raws m (args_of m behind)) t.full) t.all in omega arith)
   ]
 
   decided : (bound : ℕ) → Below bound → (len n : ℕ) → n ≤ bound → (work rest : List Word) → length work ≤ len → Decided n work rest
@@ -179,12 +180,12 @@ module _ (rules_at : Span → Rules) where
   some_run zero before (w ∷ rest) h = absurd (omega arith)
   some_run (suc len) before (w ∷ rest) h = elim (decides (rules_at w.token.at) 65535 (w ∷ []) rest) [
     | inl s ↦ let l = left_short (rules_at w.token.at) s.works in
-      let r = some_run len (before + length s.out) s.left (omega arith) in
-      (_, _, whole before w rest s.out s.left r.0 s.notes r.1 s.works s.few r.2)
+        let r = some_run len (before + length s.out) s.left (omega arith) in
+        (_, _, whole before w rest s.out s.left r.0 s.notes r.1 s.works s.few r.2)
     | inr k ↦ let i = not_large (rules_at w.token.at) w rest k (turn (rules_at w.token.at).macros w rest) refl in
-      let l = length-drop (length i.1) rest in
-      let r = some_run len (before + length (w ∷ i.1)) (drop (length i.1) rest) (omega arith) in
-      (_, _, large before w rest i.1 i.0 r.0 r.1 i.2 k r.2)
+        let l = length-drop (length i.1) rest in
+        let r = some_run len (before + length (w ∷ i.1)) (drop (length i.1) rest) (omega arith) in
+        (_, _, large before w rest i.1 i.0 r.0 r.1 i.2 k r.2)
   ]
 
   pub some_expansion : (before : ℕ) (run : List Word) → (words : List Word) × (ts : List Told) × Expands rules_at before run words ts

@@ -6,16 +6,12 @@ use Rattle.cl_macro.specs.declared.word.Word.{Word}
 use Rattle.cl_macro.specs.declared.note.Note.{Note}
 use Rattle.cl_macro.specs.declared.note.Told.{Told}
 use Rattle.cl_base.specs.declared.token.Span.{Span}
-use Rattle.std.specs.Prelude.{if◌then◌else◌, Bool, true, false}
-use Rattle.cl_base.specs.declared.token.PpToken.{PpToken}
-use Rattle.cl_macro.specs.declared.note.Note.TheVariants as note
-use Rattle.cl_macro.specs.declared.note.Told.TheVariants as told
-use Rattle.cl_macro.specs.Words.{looks, fresh, is_ident}
+use Rattle.cl_macro.specs.Words.{looks}
 use Rattle.cl_macro.specs.Turns.{Turn, Stays, Invokes, Misfits, Open, turn, stay_notes}
 use Rattle.std.proofs.lemmas.Grind.{common_steps}
 use Rattle.cl_macro.specs.Replacing.{settled_word, Works, done, stays, invokes, misfits, open_ended, replacements, Expands, whole, large, settled, span_of, all_told}
 use Rattle.cl_macro.specs.declared.level.Level.{Level}
-use Rattle.cl_macro.specs.Levels.{ahead, looked, Passes, Within}
+use Rattle.cl_macro.specs.Levels.{ahead, Passes, Within}
 use Rattle.cl_macro.proofs.Standing.{looks_zero, stay_zero, replacements_more, taken_length}
 
 -- what is invoked takes what it takes
@@ -101,20 +97,6 @@ module _ (rules_at : Span → Rules) where
         (subst (λ (ws : List Word). Expands rules_at 0 run ws (ts ++ (all_told (length words) (span_of w ns) ns ++ later))) (join words _ more words2 ew) h);
   }
 
-  looks_told : (b : Bool) (name : List ℕ) (before : ℕ) (at : Span) → all_told before at ((if b then note.Looked name ∷ [] else []) ++ []) ≡ (if b then told.Looked name ∷ [] else [])
-  looks_told true name before at = refl
-  looks_told false name before at = refl
-
-  -- a token that stays
-  pub gone_plain : (run rest words : List Word) (ts : List Told) (t : PpToken) (behind words2 : List Word) (ts2 : List Told)
-      → Gone run words ts rest → rest ≡ fresh t ∷ behind → turn (rules_at t.at).macros (fresh t) behind ≡ Stays
-      → words2 ≡ words ++ fresh t ∷ [] → ts2 ≡ ts ++ looked (fresh t) → Gone run words2 ts2 behind
-  gone_plain run rest words ts t behind words2 ts2 k e s ew et =
-      gone_whole run rest words ts (fresh t) behind (fresh t ∷ []) behind words2 (looks (fresh t) ++ []) ts2 k e
-      (stays (fresh t) [] behind [] behind [] s (done behind))
-      (let z = looks_zero (fresh t) in let m = replacements_more (looks (fresh t)) [] in omega arith)
-      ew (et ∙ ap (λ (us : List Told). ts ++ us) (sym (looks_told (is_ident t.kind) t.text (length words) (span_of (fresh t) (looks (fresh t) ++ [])))))
-
   pub gone_large : (run rest words : List Word) (ts : List Told) (w : Word) (m : Macro) (behind taken left words2 : List Word) (ts2 : List Told)
       → Gone run words ts rest → rest ≡ w ∷ behind → turn (rules_at w.token.at).macros w behind ≡ Invokes m taken
       → ((out left : List Word) (ns : List Note) → Works (rules_at w.token.at) (w ∷ []) behind out left ns → 65535 < replacements ns)
@@ -135,17 +117,17 @@ module _ (rules_at : Span → Rules) where
   -- the tokens of an invocation that is too large
   pub gone_stay : (run rest words : List Word) (ts : List Told) (first w : Word) (m : Macro) (behind taken : List Word) (count : ℕ) (level level2 : Level) (words2 : List Word) (notes : List Note) (ts2 : List Told)
       → Gone run words ts rest
-      → rest ≡ first ∷ behind → w ≡ first → level.work ≡ [] → level.rest ≡ behind → level.out ≡ []
+      → rest ≡ first ∷ behind → w ≡ first → level.work ≡ [] → level.rest.now ≡ behind → level.out ≡ []
       → turn (rules_at first.token.at).macros first behind ≡ Invokes m taken → taken ≡ take count (ahead level) → count ≤ length (ahead level)
       → ((out left : List Word) (ns : List Note) → Works (rules_at first.token.at) (first ∷ []) behind out left ns → 65535 < replacements ns)
       → Passes count level level2 → level2.out ≡ level.out ++ w ∷ take count (ahead level) → words2 ≡ words ++ level2.out
       → notes ≡ [] ++ stay_notes 17 w (take count (ahead level)) → ts2 ≡ ts ++ all_told (length words) first.token.at notes
-      → Gone run words2 ts2 level2.rest
+      → Gone run words2 ts2 level2.rest.now
   gone_stay run rest words ts first w m behind taken count level level2 words2 notes ts2 k e ew lw lr lo t tt2 h big p eo es en et =
       let a : ahead level ≡ behind = (λ i. reverse (lw i) ++ lr i) in
       let tk : take count (ahead level) ≡ take count behind = ap (take count) a in
       let lc : length (take count behind) ≡ count = taken_length (rules_at first.token.at) count behind (subst (λ (ws : List Word). count ≤ length ws) a h) in
-      gone_large run rest words ts first m behind (take count behind) level2.rest words2 ts2 k e
+      gone_large run rest words ts first m behind (take count behind) level2.rest.now words2 ts2 k e
       (t ∙ ap (λ ws. Invokes m ws) (tt2 ∙ tk)) big
       (p.rest ∙ (λ i. drop (count - length (lw i)) (lr i)) ∙ ap (λ n. drop n behind) (let z : count - 0 ≡ length (take count behind) = omega arith in z))
       (es ∙ ap (λ ws. words ++ ws) (eo ∙ (λ i. lo i ++ ew i ∷ tk i)))

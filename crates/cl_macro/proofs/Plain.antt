@@ -1,5 +1,5 @@
 -- Runs without names of macros, and what is told of a run.
-use Rattle.std.proofs.Common.{◌≡◌, ℕ, suc, ◌+◌, Bool, true, false, List, [], ◌∷◌, ◌++◌, length, map, Option, None, refl, sym, ap, subst, ◌∙◌, arith}
+use Rattle.std.proofs.Common.{◌≡◌, ℕ, suc, ◌+◌, Bool, true, false, List, [], ◌∷◌, ◌++◌, map, Option, None, refl, sym, ap, ◌∙◌, arith}
 use Rattle.std.specs.Prelude.{if◌then◌else◌, ◌&&◌, All}
 use Rattle.cl_base.specs.declared.macros.Macro.{Macro}
 use Rattle.cl_base.specs.declared.macros.MacroNo.{MacroNo}
@@ -12,7 +12,7 @@ use Rattle.cl_macro.specs.declared.note.Note.TheVariants as note
 use Rattle.cl_macro.specs.declared.note.Told.{Told}
 use Rattle.cl_macro.specs.Words.{fresh, looks, is_ident}
 use Rattle.cl_macro.specs.Turns.{Stays, turn, turn_of}
-use Rattle.cl_macro.specs.Replacing.{stays, done, Expands, end, whole, replacements, span_of, all_told}
+use Rattle.cl_macro.specs.Replacing.{stays, done, Expands, end, whole, span_of, all_told}
 use Rattle.cl_macro.specs.Expansions.{IsExpansion, IsPlain, token_of, faults_of, looks_of, uses_of}
 use Rattle.cl_macro.proofs.Standing.{looks_zero, replacements_more}
 use Rattle.cl_macro.proofs.Unique.{one_expansion}

@@ -1,5 +1,5 @@
 -- Tokens in work as the code keeps them.
-use Rattle.std.specs.Prelude.{◌≡◌, ℕ, ◌-◌, ◌+◌, List, [], ◌∷◌, ◌++◌, reverse, length, drop, take, Option, Some, None, Bool, if◌then◌else◌, ◌≤◌, ◌==◌, ◌||◌, ◌&&◌}
+use Rattle.std.specs.Prelude.{◌≡◌, ℕ, ◌-◌, ◌+◌, List, [], ◌∷◌, ◌++◌, reverse, length, drop, take, Option, Some, None, Bool, ◌≤◌, ◌==◌, ◌||◌, ◌&&◌}
 use Rattle.cl_base.specs.Lent.{lent_value}
 use Rattle.cl_base.specs.declared.macros.Macro.{Macro}
 use Rattle.cl_base.specs.declared.token.Kind.{Kind}
@@ -7,15 +7,12 @@ use Rattle.cl_base.specs.declared.token.Span.{Span}
 use Rattle.cl_base.specs.Lines.{line_at}
 use Rattle.cl_macro.specs.declared.place.Place.{Place}
 use Rattle.cl_macro.specs.Rules.{Rules, TellsTokens}
-use Rattle.cl_macro.specs.Words.{is_ident}
 use Rattle.cl_macro.specs.declared.turn.Doing.{Doing}
 use Rattle.cl_macro.specs.declared.turn.Doing.TheVariants as doing
 use Rattle.cl_macro.specs.declared.turn.Reach.{Reach}
 use Rattle.cl_macro.specs.declared.turn.Reach.TheVariants as far
 use Rattle.cl_macro.specs.Turns.{Turn, Stays, Invokes, Misfits, Open, turn}
 use Rattle.cl_macro.specs.declared.note.Note.{Note}
-use Rattle.cl_macro.specs.declared.note.Told.{Told}
-use Rattle.cl_macro.specs.declared.note.Told.TheVariants as told
 use Rattle.cl_macro.specs.declared.walk.Invoked.{Invoked}
 use Rattle.cl_macro.specs.Replacing.{replacements}
 use Rattle.cl_macro.specs.Walks.{Walks}
@@ -26,7 +23,7 @@ abbrev pub work_of : Level → List Word
 work_of level = reverse level.work
 
 abbrev pub ahead : Level → List Word
-ahead level = reverse level.work ++ level.rest
+ahead level = reverse level.work ++ level.rest.now
 
 -- the rules go by the tokens of C, and by this place
 pub record Suits (rules : Rules) (place : Place) : Type 0 where
@@ -37,7 +34,7 @@ pub record Suits (rules : Rules) (place : Place) : Type 0 where
 -- so many tokens are taken
 pub record Passes (n : ℕ) (old new : Level) : Type 0 where
   pub work : reverse new.work ≡ drop n (reverse old.work)
-  pub rest : new.rest ≡ drop (n - length old.work) old.rest
+  pub rest : new.rest.now ≡ drop (n - length old.work) old.rest.now
 
 -- the rules of each place of a file with this text, whose path is this string literal
 abbrev pub rules_of : (List ℕ → Option Macro) → (List ℕ → Option Kind) → List ℕ → List ℕ → Span → Rules
@@ -46,10 +43,6 @@ rules_of macros one_token file text at = record {
   one_token = one_token;
   here = record { file = file; line = line_at text at.from + 1 };
 }
-
--- what is told of a token that stays
-abbrev pub looked : Word → List Told
-looked w = if is_ident w.token.kind then told.Looked w.token.text ∷ [] else []
 
 -- the tokens of a run stand in this text
 abbrev pub Within : List ℕ → List Word → Type 0
@@ -110,8 +103,8 @@ module _ (rules : Rules) where
     pub out : level.out ≡ first.out ++ front
     pub all : notes ≡ before ++ more
     pub none : replacements more ≡ 0
-    pub kept : first.rest ≡ [] → level.rest ≡ []
-    pub walks : Walks rules (work_of first) first.rest front more (head ++ work_of level) level.rest
+    pub kept : first.rest.now ≡ [] → level.rest.now ≡ []
+    pub walks : Walks rules (work_of first) first.rest.now front more (head ++ work_of level) level.rest.now
 
   pub record Invoking (first : Level) (before : List Note) (level : Level) (notes : List Note) (found : Invoked) : Type 0 where
     pub stood : Stood first before (found.word ∷ []) level notes

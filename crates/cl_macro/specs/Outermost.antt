@@ -11,7 +11,7 @@ use Rattle.cl_macro.specs.Frames.{Closed, at_level}
 
 module _ (rules : Rules) where
   pub record Wholly (w : Word) (rest : List Word) (whole : Whole) : Type 0 where
-    pub works : Works rules (w ∷ []) rest whole.out whole.left whole.notes
+    pub works : Works rules (w ∷ []) rest whole.out whole.left.now whole.notes
     pub small : replacements whole.notes ≤ 65535
 
   -- what becomes of the run's next token; None: more than 65,535 replacements are needed
@@ -24,4 +24,4 @@ module _ (rules : Rules) where
     pub leads : Leads (working rules [] (w ∷ []) rest []) (at_level rules fs level) notes
     pub counts : replacements notes ≡ count
     pub most : count ≤ 65535
-    pub closed : Closed fs level.rest
+    pub closed : Closed fs level.rest.now

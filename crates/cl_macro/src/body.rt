@@ -20,8 +20,8 @@ use std::alloc::Global;
 fn body_word(alloc: Global, token: &BodyToken) -> Mem<Word>
     ensures { IfOk result (λ word. word ≡ body_word token.now) }
 {
-    let text = token.text.duplicate(alloc)?;
-    Ok(made_word(token.kind, text, token.space))
+    let word = made_word(alloc, token.kind, token.text.bytes(), token.space)?;
+    Ok(word)
 }
 
 /// The argument of this number.

@@ -16,8 +16,8 @@ use crate::expanded::{Expanded, sorted};
 use crate::run::expand_run;
 use crate::spell::push_escaped;
 use crate::table::MacroTable;
-use crate::word::Word;
-use cl_base::{LineTable, List, Mem, Name, Path, PpToken};
+use crate::word::{Word, fresh};
+use cl_base::{Duplicate, LineTable, List, Mem, Name, Path, PpToken};
 use std::alloc::Global;
 
 /// The string literal of a path (N1570 6.10.8.1).
@@ -30,6 +30,21 @@ fn file_literal(alloc: Global, path: &Path) -> Mem<Name>
     text.push(b'"')?;
     let name = Name::new(alloc, text.as_slice())?;
     Ok(name)
+}
+
+/// The tokens of a run before anything happens.
+fn fresh_run(alloc: Global, run: &[PpToken]) -> Mem<List<Word>>
+    ensures { IfOk result (λ words. words ≡ map fresh run.now) }
+{
+    let mut words = List::new(alloc);
+    let mut rest = run;
+    while let Some((token, behind)) = rest.split_first() {
+        rest = behind;
+        let token = token.duplicate(alloc)?;
+        let word = fresh(alloc, token)?;
+        words.push(word)?;
+    }
+    Ok(words)
 }
 
 fn token_of(word: Word) -> PpToken
@@ -65,7 +80,8 @@ impl MacroTable {
         ensures { (one_token : List ℕ → Option TheKind) (text : List ℕ) → TellsTokens one_token → IsTableOf lines.now text → Within text (map fresh run.now) → IfOk result (λ all. IsExpansion (rules_of (macro_of self.now (B.macros base.now)) one_token (quoted (escaped path.now)) text) (event_of self.now (B.events base.now)) run.now all) }
     {
         let file = file_literal(alloc, path)?;
-        let worked = expand_run(alloc, self, base, &file, lines, run)?;
+        let words = fresh_run(alloc, run)?;
+        let worked = expand_run(alloc, self, base, &file, lines, words.as_slice())?;
         let tokens = tokens_of(alloc, worked.words)?;
         let all = sorted(alloc, self, base, tokens, worked.told)?;
         Ok(all)

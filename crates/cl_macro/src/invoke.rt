@@ -8,7 +8,6 @@ ghost use Rattle.cl_macro.specs.Walks.{notes_of};
 ghost use Rattle.cl_macro.specs.Turns.{invoking};
 ghost use Rattle.cl_macro.specs.Frames.{Proceeds, Replaced, Short, begun_at, frame_of, frames, waits};
 
-use crate::behind::Behind;
 use crate::args::{args_of, note_invocation, reversed, set_of};
 use crate::body::Args;
 use crate::level::Level;
@@ -60,7 +59,7 @@ pub(crate) fn proceed<'a>(
     pending: Pending<'a>,
 ) -> Mem<Level<'a>>
     ensures fewer { OnOk result (waits calls.new ≤ waits calls.old + length pending.entry.waiting) }
-    ensures short { (n : ℕ) → Short n (frames calls.old) → length pending.entry.level.rest ≤ n → IfOk result (λ level. Short n (frames calls.new) × (length level.rest ≤ n)) }
+    ensures short { (n : ℕ) → Short n (frames calls.old) → length pending.entry.level.rest.now ≤ n → IfOk result (λ level. Short n (frames calls.new) × (length level.rest.now ≤ n)) }
     ensures proceeds { (rules : Rules) → Suits rules place.now → IfOk result (λ level. Proceeds rules (frames calls.old) (frame_of pending.entry) notes.old (frames calls.new) level notes.new) }
 {
     let mut pending = pending;
@@ -69,10 +68,11 @@ pub(crate) fn proceed<'a>(
         return Ok(level);
     };
     let work = reversed(alloc, arg)?;
+    let (rest, _) = pending.level.rest.split_at(0);
     calls.push(pending)?;
     Ok(Level {
         work,
-        rest: Behind::new(&[]),
+        rest,
         out: List::new(alloc),
     })
 }
@@ -85,7 +85,7 @@ fn replaced<'a>(
     pending: Pending<'a>,
 ) -> Mem<Level<'a>>
     ensures words { (rules : Rules) → Suits rules place.now → IfOk result (λ level. Replaced rules (frame_of pending.entry) level) }
-    ensures rest { IfOk result (λ level. level.rest ≡ pending.entry.level.rest) }
+    ensures rest { IfOk result (λ level. level.rest.now ≡ pending.entry.level.rest.now) }
     ensures notes { (rules : Rules) → Suits rules place.now → OnOk result (notes.new ≡ notes.old ++ notes_of rules (frame_of pending.entry) pending.entry.done) }
 {
     let args = Args {

@@ -10,7 +10,7 @@ ghost use Rattle.cl_macro.specs.Rules.{TellsTokens};
 use crate::note::Note;
 use crate::part::Part;
 use crate::word::{Word, made_word};
-use cl_base::{Kind, List, Mem, Name, PpToken};
+use cl_base::{Kind, List, Mem, PpToken};
 use cl_lex::one_token;
 use std::alloc::Global;
 use std::mem;
@@ -79,8 +79,7 @@ fn joined_word(alloc: Global, kind: Kind, text: &[u8], left: &Word, right: &Word
     ensures { IfOk result (λ word. word ≡ joined_word kind left.now right.now) }
 {
     let hide = left.hide.both(alloc, &right.hide)?;
-    let text = Name::new(alloc, text)?;
-    let mut word = made_word(kind, text, left.token.space);
+    let mut word = made_word(alloc, kind, text, left.token.space)?;
     word.hide = hide;
     Ok(word)
 }

@@ -4,7 +4,7 @@ ghost use Rattle.std.specs.Prelude.{◌≡◌, ◌==◌, ◌||◌, ◌++◌, ◌
 ghost use Rattle.cl_macro.specs.Strings.{escaped, is_quoted, quoted, spelled, spelled_on, spelled_word, string_of};
 
 use crate::word::{Word, made_word};
-use cl_base::{Kind, Mem, Name};
+use cl_base::{Kind, Mem};
 use std::alloc::Global;
 
 /// Whether a token is quoted: `\` stands before each `"` and `\` in its spelling.
@@ -93,6 +93,6 @@ pub(crate) fn string_of(alloc: Global, space: bool, arg: &[Word]) -> Mem<Word>
     text.push(b'"')?;
     push_spelled(&mut text, arg)?;
     text.push(b'"')?;
-    let text = Name::new(alloc, text.as_slice())?;
-    Ok(made_word(Kind::Str, text, space))
+    let word = made_word(alloc, Kind::Str, text.as_slice(), space)?;
+    Ok(word)
 }

@@ -1,8 +1,7 @@
-use Rattle.std.proofs.Common.{length, map, List, Option, ℕ}
+use Rattle.std.proofs.Common.{length, List, Option, ℕ}
 use Rattle.cl_base.specs.declared.token.Kind.{Kind}
 use Rattle.cl_base.specs.Lines.{IsTableOf}
 use Rattle.cl_macro.specs.Rules.{TellsTokens}
-use Rattle.cl_macro.specs.Words.{fresh}
 use Rattle.cl_macro.specs.Table.{macro_of}
 use Rattle.cl_macro.specs.Levels.{Within, rules_of}
 use Rattle.cl_macro.proofs.Expanding.{Gone}
@@ -10,7 +9,7 @@ use Rattle.cl_macro.proofs.run.expand_run.Given as goal
 
 abbrev pub invariant-loop-first : goal.invariant-loop-first
 invariant-loop-first g l = (one_token : List ℕ → Option Kind) (text : List ℕ) → TellsTokens one_token → IsTableOf l.lines text
-    → Within text (map fresh l.fn.run) → Gone (rules_of (macro_of l.table (g.B.MacroBase.macros l.base)) one_token l.file text) (map fresh l.fn.run) l.words l.told l.rest × Within text l.rest
+    → Within text l.fn.run → Gone (rules_of (macro_of l.table (g.B.MacroBase.macros l.base)) one_token l.file text) l.fn.run l.words l.told l.rest × Within text l.rest
 
 abbrev pub decreases-loop-first : goal.decreases-loop-first
 decreases-loop-first g l = length l.rest
