@@ -5,8 +5,8 @@ ghost use Rattle.serde_json.specs.Written.{compact_text};
 ghost use Rattle.cl_rpc.specs.Replies.{Adds, text_data, id_data};
 
 use crate::id::Id;
-use cl_lossy::shown;
 use cl_base::{Mem, Text};
+use cl_lossy::shown;
 use itoa::Buffer;
 use serde_json::Value;
 use std::alloc::Global;

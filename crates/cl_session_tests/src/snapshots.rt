@@ -45,7 +45,10 @@ fn work_is_over_jobs_that_say_what_it_saw(rt: HostRuntime) -> Result<(), Memory>
     assert!(rt; first.is_over(&unknown, &first) && !first.is_over(&unknown, &second));
     assert!(rt; !first.is_over(&absent, &first) && first.is_over(&absent, &second));
     assert!(rt; !first.is_over(&both, &second));
-    let other = Job { number: 1, ..second };
+    let other = Job {
+        number: 1,
+        ..second
+    };
     assert!(rt; !first.is_over(&nothing, &other));
     Ok(())
 }
