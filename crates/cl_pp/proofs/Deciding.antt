@@ -1,30 +1,51 @@
 -- The tokens of a condition, one after the other.
-use Rattle.std.proofs.Common.{◌≡◌, ℕ, zero, suc, ◌+◌, ◌<◌, ◌≤◌, List, [], ◌∷◌, ◌++◌, refl, sym, ap, ◌∙◌, arith, length, drop, append_assoc, append-nil}
+use Rattle.std.proofs.Common.{◌≡◌, ℕ, zero, suc, ◌+◌, ◌<◌, ◌≤◌, List, [], ◌∷◌, ◌++◌, Option, refl, sym, ap, ◌∙◌, arith, length, drop, append_assoc, append-nil}
+use Rattle.cl_base.specs.declared.macros.Macro.{Macro}
 use Rattle.cl_base.specs.declared.token.Token.{Token}
 use Rattle.cl_base.specs.declared.token.PpToken.{PpToken}
-use Rattle.cl_pp.specs.Defined.{decided, decided_from, replaced, taken}
+use Rattle.cl_pp.specs.Defined.{asked, asked_for, asked_from, decided, decided_from, replaced, taken}
 
 -- those that belong to what is before are passed
-passed : (n : ℕ) (ts : List Token) → n ≤ length ts → decided_from n ts ≡ decided_from 0 (drop n ts)
-passed zero ts h = refl
-passed (suc n) [] h = absurd (omega arith)
-passed (suc n) (t ∷ ts) h = passed n ts (omega arith)
+passed : (macros : List ℕ → Option Macro) (n : ℕ) (ts : List Token) → n ≤ length ts → decided_from macros n ts ≡ decided_from macros 0 (drop n ts)
+passed macros zero ts h = refl
+passed macros (suc n) [] h = absurd (omega arith)
+passed macros (suc n) (t ∷ ts) h = passed macros n ts (omega arith)
 
-pub decided_on : (tokens : List Token) (all new : List PpToken) (rest after left : List Token) (token : Token) (count : ℕ) (it : PpToken)
-    → decided tokens ≡ all ++ decided_from 0 rest → rest ≡ token ∷ after → count ≡ taken token after → count ≤ length after → it ≡ replaced token after
-    → new ≡ all ++ it ∷ [] → left ≡ drop count after → decided tokens ≡ new ++ decided_from 0 left
-decided_on tokens all new rest after left token count it h r c w i n l =
-    let count_is : decided_from (taken token after) after ≡ decided_from 0 left =
-    ap (λ (k : ℕ). decided_from k after) (sym c) ∙ passed count after w ∙ ap (decided_from 0) (sym l) in
-    h ∙ ap (λ (ts : List Token). all ++ decided_from 0 ts) r
-    ∙ ap (λ (more : List PpToken). all ++ replaced token after ∷ more) count_is
-    ∙ ap (λ (x : PpToken). all ++ x ∷ decided_from 0 left) (sym i)
-    ∙ sym (append_assoc all (it ∷ []) (decided_from 0 left))
-    ∙ ap (λ (xs : List PpToken). xs ++ decided_from 0 left) (sym n)
+passed_names : (n : ℕ) (ts : List Token) → n ≤ length ts → asked_from n ts ≡ asked_from 0 (drop n ts)
+passed_names zero ts h = refl
+passed_names (suc n) [] h = absurd (omega arith)
+passed_names (suc n) (t ∷ ts) h = passed_names n ts (omega arith)
 
-pub decided_all : (tokens : List Token) (all : List PpToken) (rest : List Token) → decided tokens ≡ all ++ decided_from 0 rest → length rest ≡ 0 → all ≡ decided tokens
-decided_all tokens all [] h e = sym (h ∙ append-nil all)
-decided_all tokens all (t ∷ ts) h e = absurd (omega arith)
+pub decided_on : (macros : List ℕ → Option Macro) (tokens : List Token) (all new : List PpToken) (rest after left : List Token) (token : Token) (count : ℕ) (it : PpToken)
+    → decided macros tokens ≡ all ++ decided_from macros 0 rest → rest ≡ token ∷ after → count ≡ taken token after → count ≤ length after → it ≡ replaced macros token after
+    → new ≡ all ++ it ∷ [] → left ≡ drop count after → decided macros tokens ≡ new ++ decided_from macros 0 left
+decided_on macros tokens all new rest after left token count it h r c w i n l =
+    let count_is : decided_from macros (taken token after) after ≡ decided_from macros 0 left =
+    ap (λ (k : ℕ). decided_from macros k after) (sym c) ∙ passed macros count after w ∙ ap (decided_from macros 0) (sym l) in
+    h ∙ ap (λ (ts : List Token). all ++ decided_from macros 0 ts) r
+    ∙ ap (λ (more : List PpToken). all ++ replaced macros token after ∷ more) count_is
+    ∙ ap (λ (x : PpToken). all ++ x ∷ decided_from macros 0 left) (sym i)
+    ∙ sym (append_assoc all (it ∷ []) (decided_from macros 0 left))
+    ∙ ap (λ (xs : List PpToken). xs ++ decided_from macros 0 left) (sym n)
+
+pub decided_all : (macros : List ℕ → Option Macro) (tokens : List Token) (all : List PpToken) (rest : List Token) → decided macros tokens ≡ all ++ decided_from macros 0 rest → length rest ≡ 0 → all ≡ decided macros tokens
+decided_all macros tokens all [] h e = sym (h ∙ append-nil all)
+decided_all macros tokens all (t ∷ ts) h e = absurd (omega arith)
+
+pub asked_on : (tokens : List Token) (all new : List (List ℕ)) (rest after left : List Token) (token : Token) (count : ℕ)
+    → asked tokens ≡ all ++ asked_from 0 rest → rest ≡ token ∷ after → count ≡ taken token after → count ≤ length after
+    → new ≡ all ++ asked_for token after → left ≡ drop count after → asked tokens ≡ new ++ asked_from 0 left
+asked_on tokens all new rest after left token count h r c w n l =
+    let count_is : asked_from (taken token after) after ≡ asked_from 0 left =
+    ap (λ (k : ℕ). asked_from k after) (sym c) ∙ passed_names count after w ∙ ap (asked_from 0) (sym l) in
+    h ∙ ap (λ (ts : List Token). all ++ asked_from 0 ts) r
+    ∙ ap (λ (more : List (List ℕ)). all ++ (asked_for token after ++ more)) count_is
+    ∙ sym (append_assoc all (asked_for token after) (asked_from 0 left))
+    ∙ ap (λ (xs : List (List ℕ)). xs ++ asked_from 0 left) (sym n)
+
+pub asked_all : (tokens : List Token) (all : List (List ℕ)) (rest : List Token) → asked tokens ≡ all ++ asked_from 0 rest → length rest ≡ 0 → all ≡ asked tokens
+asked_all tokens all [] h e = sym (h ∙ append-nil all)
+asked_all tokens all (t ∷ ts) h e = absurd (omega arith)
 
 pub fewer : (rest after left : List Token) (token : Token) (count : ℕ) → rest ≡ token ∷ after → length left + count ≡ length after → length left < length rest
 fewer rest after left token count r l =

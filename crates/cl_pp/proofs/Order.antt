@@ -1,114 +1,138 @@
--- The tokens of the lines lie one after the other.
-use Rattle.std.proofs.Common.{◌≡◌, ℕ, ◌-◌, ◌<◌, ◌≤◌, List, [], ◌∷◌, ◌++◌, sym, ap, subst, ◌∙◌, arith, length, drop, take, zero, suc, get_or, Option, Some, None}
+-- The tokens of a text after preprocessing follow one another.
+use Rattle.std.proofs.Common.{◌≡◌, ℕ, zero, suc, ◌+◌, ◌-◌, ◌<◌, ◌≤◌, Bool, true, false, List, [], ◌∷◌, ◌++◌, Option, Some, None, refl, sym, ap, subst, ◌∙◌, arith, length, map, take, drop, append_assoc, append-nil, ◌⊎◌, inl, inr}
 use Rattle.std.proofs.Math.Seq.{drop-nil}
-use Rattle.std.specs.Prelude.{Bool, true, false, if◌then◌else◌}
-use Rattle.cl_base.specs.declared.token.Token.{Token}
+use Rattle.std.specs.Prelude.{if◌then◌else◌}
+use Rattle.cl_base.specs.declared.macros.MacroNo.{MacroNo}
+use Rattle.cl_base.specs.declared.token.Span.{Span}
 use Rattle.cl_base.specs.declared.token.PpToken.{PpToken}
+use Rattle.cl_base.specs.declared.token.Token.{Token}
+use Rattle.cl_macro.specs.declared.expanded.Expanded.{Expanded}
+use Rattle.cl_macro.specs.declared.word.Word.{Word}
+use Rattle.cl_macro.specs.declared.note.Note.{Note}
+use Rattle.cl_macro.specs.declared.note.Told.{Told}
+use Rattle.cl_macro.specs.Rules.{Rules}
+use Rattle.cl_macro.specs.Words.{fresh, looks}
+use Rattle.cl_macro.specs.Turns.{Stays, Invokes, Misfits, Open, args_of, set_of, stay_notes, close_of, took, turn}
+use Rattle.cl_macro.specs.Params.{raws}
+use Rattle.cl_macro.specs.Replacing.{Works, Expands, done, stays, invokes, misfits, open_ended, end, whole, large, end_from, settled, settled_word, span_of}
+use Rattle.cl_macro.specs.Expansions.{IsExpansion, token_of}
+use Rattle.cl_macro.proofs.Shapes.{Nothing, shape}
+use Rattle.cl_pp.specs.Places.{Follows, InOrder}
+use Rattle.cl_pp.specs.Lines.{spread_line}
 use Rattle.cl_lex.specs.Order.{AreInOrder}
-use Rattle.cl_cond.specs.declared.eval.IfValue.{IfValue}
-use Rattle.cl_cond.specs.declared.mark.Mark.{Mark}
-use Rattle.cl_cond.specs.declared.mark.Groups.{Groups}
-use Rattle.cl_cond.specs.declared.mark.Part.{Part}
-use Rattle.cl_cond.specs.declared.mark.Part.TheVariants.{Line, Branch, End}
-use Rattle.cl_cond.specs.declared.trouble.Trouble.{Trouble}
-use Rattle.cl_cond.specs.declared.trouble.Trouble.TheVariants.{Outside, AfterElse, Unended}
-use Rattle.cl_cond.specs.Lines.{Lines}
-use Rattle.cl_cond.specs.Sections.{GroupsOf, kept, kept_line, trouble_of}
-use Rattle.cl_pp.specs.Activity.{Passed, Active}
-use Rattle.cl_pp.specs.Lines.{is_directive, line_of, spread_line}
-use Rattle.cl_pp.specs.Places.{InOrder, MarksLie}
-use Rattle.cl_pp.specs.Preprocessing.{answers, passed, tokens_by, tokens_from}
+use Rattle.cl_pp.proofs.Placing.{AllMade, Laid, Lie, Takes, append_made, args_made, asked_made, drop_made, each_still, invoked_laid, laid, lie_reach, made_made, take_drop, turn_takes}
 
--- ---- the lines
+-- ---- what stays as it stands
 
-marks_reach : (at count : ℕ) (marks : List Mark) → MarksLie at count marks → at ≤ count
-marks_reach at count [] h = h
-marks_reach at count (mark ∷ marks) h = let r = marks_reach mark.to count marks h.2 in omega (arith, h.0, h.1, r)
-
-marks_later : (a b count : ℕ) (marks : List Mark) → a ≤ b → MarksLie b count marks → MarksLie a count marks
-marks_later a b count [] l h = omega arith
-marks_later a b count (mark ∷ marks) l h = (omega (arith, h.0), h.1, h.2)
-
-kept_lie : (at count : ℕ) (line : Mark) (trouble : Option Trouble) (rest : List Mark) → at ≤ line.from → line.from ≤ line.to → MarksLie line.to count rest → MarksLie at count (kept_line line trouble ++ rest)
-kept_lie at count line None rest a b h = (a, b, h)
-kept_lie at count line (Some Outside) rest a b h = marks_later at line.to count rest (omega arith) h
-kept_lie at count line (Some AfterElse) rest a b h = marks_later at line.to count rest (omega arith) h
-kept_lie at count line (Some Unended) rest a b h = (a, b, h)
-
-lines_lie : (tokens : List Token) (at : ℕ) (before : List Part) (lines : List Mark) → Lines tokens at lines → MarksLie at (length tokens) (kept before lines)
-lines_lie tokens at before [] h = omega arith
-lines_lie tokens at before (line ∷ after) h =
-    let e = h.1.from in
-    let s = h.1.ends.some in
-    kept_lie at (length tokens) line (trouble_of before line after) (kept (line.part ∷ before) after) (omega arith) (omega arith) (lines_lie tokens line.to (line.part ∷ before) after h.2)
-
-pub marks_lie : (tokens : List Token) (groups : Groups) → GroupsOf tokens groups → MarksLie 0 (length tokens) groups.marks
-marks_lie tokens groups h = subst (MarksLie 0 (length tokens)) (sym h.marks) (lines_lie tokens 0 [] h.lines h.cut)
-
--- the line at a number is one of the lines
-pub line_lies : (at count : ℕ) (marks : List Mark) (i : ℕ) (d : Mark) → MarksLie at count marks → i < length marks → ((get_or marks i d).from ≤ (get_or marks i d).to) × ((get_or marks i d).to ≤ count)
-line_lies at count [] i d h l = absurd (omega arith)
-line_lies at count (mark ∷ marks) zero d h l = (h.1, marks_reach mark.to count marks h.2)
-line_lies at count (mark ∷ marks) (suc i) d h l = line_lies mark.to count marks i d h.2 (omega arith)
-
--- ---- the tokens
-
-reaches : (at end : ℕ) (tokens : List Token) → AreInOrder at end tokens → at ≤ end
-reaches at end [] h = h
-reaches at end (t ∷ ts) h = let r = reaches t.to end ts h.2 in omega (arith, h.0, h.1, r)
-
--- cut in two at a number
-record Cut (at end : ℕ) (tokens : List Token) (n : ℕ) : Type 0 where
+record Parted (p last : ℕ) (back rest : List Word) : Type 0 where
   seam : ℕ
-  front : AreInOrder at seam (take n tokens)
-  back : AreInOrder seam end (drop n tokens)
+  front : Lie p seam back
+  behind : Lie seam last rest
 
-cut : (at end : ℕ) (tokens : List Token) (n : ℕ) → AreInOrder at end tokens → Cut at end tokens n
-cut at end tokens zero h = record { seam = at; front = omega arith; back = h }
-cut at end [] (suc n) h = record { seam = at; front = omega arith; back = h }
-cut at end (t ∷ ts) (suc n) h = let c = cut t.to end ts n h.2 in record { seam = c.seam; front = (h.0, h.1, c.front); back = c.back }
+parted : (p last : ℕ) (back rest : List Word) → Lie p last (back ++ rest) → Parted p last back rest
+parted p last [] rest h = record { seam = p; front = omega arith; behind = h }
+parted p last (w ∷ ws) rest h = let r = parted w.token.at.to last ws rest h.3 in record { seam = r.seam; front = (h.0, h.1, h.2, r.front); behind = r.behind }
 
-later : (a b end : ℕ) (tokens : List PpToken) → a ≤ b → InOrder b end tokens → InOrder a end tokens
-later a b end [] l h = omega arith
-later a b end (t ∷ ts) l h = (omega (arith, h.0), h.1, h.2)
+-- whatever comes behind them, wherever they last
+abbrev Goes : ℕ → ℕ → List Word → Type 0
+Goes p last ws = (b : Span) → b.to ≤ p → InOrder b last (map token_of ws)
 
-join : (a b c : ℕ) (xs ys : List PpToken) → InOrder a b xs → InOrder b c ys → InOrder a c (xs ++ ys)
-join a b c [] ys h k = later a b c ys h k
-join a b c (x ∷ xs) ys h k = (h.0, h.1, join x.at.to b c xs ys h.2 k)
+stay_on : (p seam last : ℕ) (ws more : List Word) → Lie p seam ws → Goes seam last more → Goes p last (ws ++ more)
+stay_on p seam last [] more h g b l = let r : p ≤ seam = h in g b (omega (arith, l, r))
+stay_on p seam last (w ∷ ws) more h g b l =
+    (inr (omega (arith, l, h.1)), h.2, stay_on w.token.at.to seam last ws more h.3 g w.token.at (omega arith))
 
-spread_order : (at end : ℕ) (tokens : List Token) → AreInOrder at end tokens → InOrder at end (spread_line tokens)
-spread_order at end [] h = h
-spread_order at end (t ∷ ts) h = (h.0, h.1, spread_order t.to end ts h.2)
+given_settled : (at : Span) (w : Word) → w.given ≡ true → settled_word at w ≡ w
+given_settled at w g = λ i. record {
+  token = record { kind = w.token.kind; text = w.token.text; space = w.token.space; spell = w.token.spell; at = if g i then w.token.at else at };
+  hide = w.hide;
+  given = w.given;
+}
 
-text_order : (at end : ℕ) (b : Bool) (line : List Token) → AreInOrder at end line → InOrder at end (if b then [] else spread_line line)
-text_order at end true line h = reaches at end line h
-text_order at end false line h = spread_order at end line h
+all_settled : (at : Span) (p last : ℕ) (ws : List Word) → Lie p last ws → map (settled_word at) ws ≡ ws
+all_settled at p last [] h = refl
+all_settled at p last (w ∷ ws) h = λ i. given_settled at w h.0 i ∷ all_settled at w.token.at.to last ws h.3 i
 
-by_order : (at end : ℕ) (part : Part) (active : Bool) (line : List Token) → AreInOrder at end line → InOrder at end (tokens_by part active line)
-by_order at end Line true line h = text_order at end (is_directive line) line h
-by_order at end Line false line h = reaches at end line h
-by_order at end End active line h = reaches at end line h
-by_order at end (Branch c) active line h = reaches at end line h
+-- ---- what one invocation made
 
-drop_on : {X : Type 0} (a b : ℕ) (xs : List X) → a ≤ b → drop (b - a) (drop a xs) ≡ drop b xs
-drop_on zero b xs l = ap (λ (n : ℕ). drop n xs) (omega arith)
-drop_on (suc a) zero xs l = absurd (omega arith)
-drop_on (suc a) (suc b) [] l = drop-nil (suc b - suc a)
-drop_on (suc a) (suc b) (x ∷ xs) l = let e : suc b - suc a ≡ b - a = omega arith in ap (λ (n : ℕ). drop n (drop a xs)) e ∙ drop_on a b xs (omega arith)
+made_at : (at : Span) (w : Word) → w.given ≡ false → (settled_word at w).token.at ≡ at
+made_at at w g = ap (λ (b : Bool). if b then w.token.at else at) g
 
-from_order : (end at p : ℕ) (tokens : List Token) (past : List Passed) (marks : List Mark) (values : List (Option IfValue)) → AreInOrder p end (drop at tokens) → MarksLie at (length tokens) marks
-    → InOrder p end (tokens_from tokens past marks values)
-from_order end at p tokens past [] values h m = reaches p end (drop at tokens) h
-from_order end at p tokens past (mark ∷ marks) [] h m = reaches p end (drop at tokens) h
-from_order end at p tokens past (mark ∷ marks) (value ∷ values) h m =
-    let before = cut p end (drop at tokens) (mark.from - at) h in
-    let start : AreInOrder before.seam end (drop mark.from tokens) = subst (AreInOrder before.seam end) (drop_on at mark.from tokens m.0) before.back in
-    let line = cut before.seam end (drop mark.from tokens) (mark.to - mark.from) start in
-    let after : AreInOrder line.seam end (drop mark.to tokens) = subst (AreInOrder line.seam end) (drop_on mark.from mark.to tokens m.1) line.back in
-    join p line.seam end _ _
-    (later p before.seam line.seam _ (reaches p before.seam _ before.front) (by_order before.seam line.seam mark.part (answers tokens past Active) (line_of tokens mark) line.front))
-    (from_order end mark.to line.seam tokens (passed tokens past mark value ∷ past) marks values after m.2)
+made_on : (at : Span) (seam last : ℕ) (ws more : List Word) → AllMade ws → at.from < at.to → at.to ≤ seam → Goes seam last more → (b : Span) → Follows b at → b.to ≤ seam
+    → InOrder b last (map token_of (map (settled_word at) ws ++ more))
+made_on at seam last [] more m s l g b f t = g b t
+made_on at seam last (w ∷ ws) more m s l g b f t =
+    let e : at ≡ (settled_word at w).token.at = sym (made_at at w m.0) in
+    let rest : InOrder at last (map token_of (map (settled_word at) ws ++ more)) = made_on at seam last ws more m.1 s l g at (inl refl) l in
+    subst (λ (x : Span). Follows b x × (x.from < x.to) × InOrder x last (map token_of (map (settled_word at) ws ++ more))) e (f, s, rest)
 
-pub tokens_order : (end : ℕ) (tokens : List Token) (marks : List Mark) (values : List (Option IfValue)) → AreInOrder 0 end tokens → MarksLie 0 (length tokens) marks
-    → InOrder 0 end (tokens_from tokens [] marks values)
-tokens_order end tokens marks values h m = from_order end 0 0 tokens [] marks values h m
+map_both : (at : Span) (xs ys : List Word) → map (settled_word at) (xs ++ ys) ≡ map (settled_word at) xs ++ map (settled_word at) ys
+map_both at [] ys = refl
+map_both at (x ∷ xs) ys = ap (λ (ws : List Word). settled_word at x ∷ ws) (map_both at xs ys)
+
+-- ---- the run's next token
+
+laid_on : (w : Word) (p last : ℕ) (out left more : List Word) (ns : List Note) → w.given ≡ true → p ≤ w.token.at.from → w.token.at.from < w.token.at.to
+    → Laid w.token.at.to last out left ns → ((q : ℕ) → Lie q last left → Goes q last more) → Goes p last (settled w ns out ++ more)
+laid_on w p last out left more ns g f s r k b l =
+    let at : Span = span_of w ns in
+    let c = parted r.seam last r.back left r.lies in
+    let lo = r.low in
+    let hi = r.high in
+    let word : settled w ns out ++ more ≡ map (settled_word at) r.front ++ (r.back ++ more) =
+    ap (λ (ws : List Word). map (settled_word at) ws ++ more) r.all ∙ ap (λ (ws : List Word). ws ++ more) (map_both at r.front r.back)
+    ∙ ap (λ (ws : List Word). (map (settled_word at) r.front ++ ws) ++ more) (all_settled at r.seam c.seam r.back c.front)
+    ∙ append_assoc (map (settled_word at) r.front) r.back more in
+    subst (λ (ws : List Word). InOrder b last (map token_of ws)) (sym word)
+    (made_on at r.seam last r.front (r.back ++ more) r.made (omega (arith, s, lo)) hi (stay_on r.seam c.seam last r.back more c.front (k c.seam c.behind)) b (inr (omega (arith, l, f))) (omega (arith, l, f, s, lo, hi)))
+
+-- it stays with what it takes
+kept_on : (w : Word) (at : Span) (p last : ℕ) (out left rest more : List Word) → out ++ left ≡ w ∷ rest → Lie p last (w ∷ rest)
+    → ((q : ℕ) → Lie q last left → Goes q last more) → Goes p last (map (settled_word at) out ++ more)
+kept_on w at p last out left rest more e h k b l =
+    let c = parted p last out left (subst (Lie p last) (sym e) h) in
+    subst (λ (ws : List Word). InOrder b last (map token_of (ws ++ more))) (sym (all_settled at p c.seam out c.front))
+    (stay_on p c.seam last out more c.front (k c.seam c.behind) b l)
+
+module _ (rules : Rules) where
+  first_on : (w : Word) (p last : ℕ) (rest out left more : List Word) (ns : List Note) → Works rules (w ∷ []) rest out left ns → Lie p last (w ∷ rest)
+      → ((q : ℕ) → Lie q last left → Goes q last more) → Goes p last (settled w ns out ++ more)
+  first_on w p last rest _ left more _ (stays _ _ _ out _ ns t d) h k =
+      let s : Nothing rules rest out left ns = shape rules d in
+      kept_on w (span_of w (looks w ++ ns)) p last (w ∷ out) left rest more (λ i. w ∷ (s.words i ++ s.all i)) h k
+  first_on w p last rest _ left more _ (invokes _ _ _ m behind full inner out _ ns t a d) h k =
+      laid_on w p last out left more _ h.0 h.1 h.2
+      (invoked_laid rules w [] rest m behind full inner out left ns t (each_still rules a (asked_made m (args_of m behind) (args_made m behind))) tt w.token.at.to w.token.at.to last h.3 (omega arith)
+      (λ from q lie e. laid rules d (append_made _ (drop (length behind) []) (made_made rules m (raws m (args_of m behind)) full w.token.space (set_of w behind)) (drop_made (length behind) [] tt)) from q last lie e)) k
+  first_on w p last rest _ left more _ (misfits _ _ _ behind out _ ns t d) h k =
+      let n : ℕ = length behind - 0 in
+      let z : n ≡ length behind = omega arith in
+      let s : Nothing rules (drop n rest) out left ns = shape rules (subst (λ (ws : List Word). Works rules ws (drop n rest) out left ns) (drop-nil (length behind)) d) in
+      let word : behind ≡ take (length behind) rest = turn_takes rules.macros w rest (Misfits behind) t in
+      let all : (behind ++ out) ++ left ≡ rest =
+      (λ i. (behind ++ s.words i) ++ s.all i) ∙ ap (λ (ws : List Word). ws ++ drop n rest) (append-nil behind)
+      ∙ ap (λ (j : ℕ). behind ++ drop j rest) z ∙ ap (λ (ws : List Word). ws ++ drop (length behind) rest) word ∙ take_drop (length behind) rest in
+      kept_on w (span_of w (stay_notes 19 w behind ++ ns)) p last (w ∷ (behind ++ out)) left rest more (ap (λ (ws : List Word). w ∷ ws) all) h k
+  first_on w p last rest _ _ more _ (open_ended _ _ _ t) h k =
+      kept_on w (span_of w (stay_notes 20 w rest)) p last (w ∷ rest) [] rest more (ap (λ (ws : List Word). w ∷ ws) (append-nil rest)) h k
+
+module _ (rules_at : Span → Rules) where
+  pub run_order : {before : ℕ} {run words : List Word} {ts : List Told} → Expands rules_at before run words ts → (p last : ℕ) → Lie p last run → Goes p last words
+  run_order (end before) p last h b l = let r : p ≤ last = h in omega (arith, l, r)
+  run_order (whole before w rest out left more ns ts d few g) p last h = first_on (rules_at w.token.at) w p last rest out left more ns d h (λ q lie. run_order g q last lie)
+  run_order (large before w rest behind m more ts t many g) p last h =
+      let word : behind ≡ take (length behind) rest = turn_takes (rules_at w.token.at).macros w rest (Invokes m behind) t in
+      let all : (w ∷ behind) ++ drop (length behind) rest ≡ w ∷ rest = ap (λ (ws : List Word). w ∷ (ws ++ drop (length behind) rest)) word ∙ ap (λ (ws : List Word). w ∷ ws) (take_drop (length behind) rest) in
+      let c = parted p last (w ∷ behind) (drop (length behind) rest) (subst (Lie p last) (sym all) h) in
+      stay_on p c.seam last (w ∷ behind) more c.front (run_order g c.seam last c.behind)
+
+-- ---- a line
+
+spread_lies : (p last : ℕ) (line : List Token) → AreInOrder p last line → Lie p last (map fresh (spread_line line))
+spread_lies p last [] h = h
+spread_lies p last (t ∷ ts) h = (refl, h.0, h.1, spread_lies t.to last ts h.2)
+
+pub expanded_order : (rules_at : Span → Rules) (numbers : List ℕ → Option MacroNo) (p last : ℕ) (line : List Token) (all : Expanded) → IsExpansion rules_at numbers (spread_line line) all
+    → AreInOrder p last line → (b : Span) → b.to ≤ p → InOrder b last all.tokens
+expanded_order rules_at numbers p last line all e h b l =
+    subst (InOrder b last) (sym e.tokens) (run_order rules_at e.expands p last (spread_lies p last line h) b l)

@@ -7,7 +7,7 @@ use Rattle.cl_cond.specs.declared.mark.Part.TheVariants.{Line, Branch, End}
 use Rattle.cl_cond.specs.Sections.{opens}
 use Rattle.cl_pp.specs.declared.section.Section.{Section}
 use Rattle.cl_pp.specs.Activity.{Passed, Question, Active, Free, Outer, at_branch, by_part, says}
-use Rattle.cl_pp.specs.Preprocessing.{answers}
+
 use Rattle.cl_pp.specs.code.Stacks.{all_active, below, stacked, tell, top_of, under}
 
 abbrev nth : List Section → ℕ → Section
@@ -63,5 +63,5 @@ stand_first Outer n = refl
 pub stand_start : (sections : List Section) → sections ≡ [] → Stand [] (reverse sections)
 stand_start sections e = subst (λ (s : List Section). Stand [] (reverse s)) (sym e) stand_first
 
-pub top_answers : (tokens : List Token) (past : List Passed) (stack : List Section) → Stand past stack → tell (top_of stack) ≡ answers tokens past
-top_answers tokens past stack s = λ i. λ (q : Question). sym (told_top (λ r n. says r n past) stack q s) i
+pub top_answers : (past : List Passed) (stack : List Section) → Stand past stack → tell (top_of stack) ≡ (λ q. says q 0 past)
+top_answers past stack s = λ i. λ (q : Question). sym (told_top (λ r n. says r n past) stack q s) i

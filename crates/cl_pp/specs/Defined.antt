@@ -1,10 +1,11 @@
--- The tokens of a condition (N1570 6.10.1p1): `defined NAME` and `defined ( NAME )` are taken first. No macro is defined
--- at this stage, so each is 0.
-use Rattle.std.specs.Prelude.{ℕ, zero, suc, ◌-◌, ◌==◌, ◌&&◌, List, [], ◌∷◌, Bool, if◌then◌else◌, Option, Some, None, slice_get, codes}
+-- The tokens of a condition (N1570 6.10.1p1): `defined NAME` and `defined ( NAME )` are taken first, and are 1 where the
+-- name is a macro, and else 0.
+use Rattle.std.specs.Prelude.{ℕ, zero, suc, ◌-◌, ◌==◌, ◌&&◌, List, [], ◌∷◌, ◌++◌, Bool, if◌then◌else◌, Option, Some, None, is_some, slice_get, codes}
 use Rattle.cl_base.specs.declared.token.Kind.TheVariants as kind
 use Rattle.cl_base.specs.declared.token.Span.{Span}
 use Rattle.cl_base.specs.declared.token.Token.{Token}
 use Rattle.cl_base.specs.declared.token.PpToken.{PpToken}
+use Rattle.cl_base.specs.declared.macros.Macro.{Macro}
 use Rattle.cl_base.specs.Tokens.{is_ident, is_word, spells}
 
 -- a token of the document, which is the file 0
@@ -31,6 +32,20 @@ operand_len (a ∷ ts) = if is_ident a.kind then 1 else if spells a.text (codes 
 abbrev pub taken : Token → List Token → ℕ
 taken token ts = if is_word token (codes "defined") then operand_len ts else 0
 
+-- what a token spells, if there is one
+abbrev pub text_of : Option Token → List ℕ
+text_of None = []
+text_of (Some token) = token.text
+
+-- the name in an operand
+abbrev pub first_text : List Token → List ℕ
+first_text [] = []
+first_text (b ∷ ts) = b.text
+
+abbrev pub operand_name : List Token → List ℕ
+operand_name [] = []
+operand_name (a ∷ ts) = if is_ident a.kind then a.text else first_text ts
+
 -- where the last of so many tokens ends that follow this one
 abbrev pub end_of : Option Token → ℕ → ℕ
 end_of None to = to
@@ -39,24 +54,41 @@ end_of (Some token) to = token.to
 abbrev pub end_after : Token → ℕ → List Token → ℕ
 end_after token n ts = end_of (slice_get ts (n - 1)) token.to
 
--- a number 0 in place of the token and those that belong to it
-abbrev pub zero_for : Token → ℕ → List Token → PpToken
-zero_for token n ts = record {
+abbrev pub digit : Bool → List ℕ
+digit holds = if holds then codes "1" else codes "0"
+
+-- a number in place of the token and those that belong to it
+abbrev pub number_for : Bool → Token → ℕ → List Token → PpToken
+number_for holds token n ts = record {
   kind = kind.Number;
-  text = codes "0";
+  text = digit holds;
   space = token.space;
   spell = None;
   at = span_at token.from (end_after token n ts);
 }
 
-abbrev pub replaced : Token → List Token → PpToken
-replaced token ts = if taken token ts == 0 then spread token else zero_for token (taken token ts) ts
+module _ (macros : List ℕ → Option Macro) where
+  abbrev pub replaced : Token → List Token → PpToken
+  replaced token ts = if taken token ts == 0 then spread token else number_for (is_some (macros (operand_name ts))) token (taken token ts) ts
 
--- the tokens of a condition, where so many belong to what is before
-abbrev pub decided_from : ℕ → List Token → List PpToken
-decided_from n [] = []
-decided_from (suc n) (t ∷ ts) = decided_from n ts
-decided_from zero (t ∷ ts) = replaced t ts ∷ decided_from (taken t ts) ts
+  -- the tokens of a condition, where so many belong to what is before
+  abbrev pub decided_from : ℕ → List Token → List PpToken
+  decided_from n [] = []
+  decided_from (suc n) (t ∷ ts) = decided_from n ts
+  decided_from zero (t ∷ ts) = replaced t ts ∷ decided_from (taken t ts) ts
 
-abbrev pub decided : List Token → List PpToken
-decided tokens = decided_from 0 tokens
+  abbrev pub decided : List Token → List PpToken
+  decided tokens = decided_from 0 tokens
+
+-- the name that is asked for by this token and those that follow it
+abbrev pub asked_for : Token → List Token → List (List ℕ)
+asked_for token ts = if taken token ts == 0 then [] else operand_name ts ∷ []
+
+-- the names that a condition asks for, where so many tokens belong to what is before
+abbrev pub asked_from : ℕ → List Token → List (List ℕ)
+asked_from n [] = []
+asked_from (suc n) (t ∷ ts) = asked_from n ts
+asked_from zero (t ∷ ts) = asked_for t ts ++ asked_from (taken t ts) ts
+
+abbrev pub asked : List Token → List (List ℕ)
+asked tokens = asked_from 0 tokens

@@ -1,8 +1,13 @@
+pub mod Names
 pub mod Defined
 pub mod Activity
 pub mod Branching
 pub mod Lines
-pub mod Branches
+pub mod LineNumbers
+pub mod Runs
+pub mod Standing
+pub mod Acts
+pub mod Taking
 pub mod Preprocessing
 pub mod Places
 pub mod code

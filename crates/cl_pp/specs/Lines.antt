@@ -1,4 +1,4 @@
--- What a line of the file gives: its tokens, and its faults (N1570 6.10).
+-- The lines of a file: their tokens, and what is wrong with their directives (N1570 6.10).
 use Rattle.std.specs.Prelude.{ℕ, ◌-◌, ◌==◌, ◌&&◌, ◌||◌, not, List, [], ◌∷◌, ◌++◌, Bool, true, false, if◌then◌else◌, Option, Some, None, map, length, slice_get, slice_range, codes}
 use Rattle.cl_base.specs.declared.token.Kind.{Kind}
 use Rattle.cl_base.specs.declared.token.Kind.TheVariants as kind
@@ -9,11 +9,9 @@ use Rattle.cl_base.specs.declared.token.Fault.{Fault}
 use Rattle.cl_base.specs.declared.token.Diag.{Diag}
 use Rattle.cl_cond.specs.declared.eval.IfValue.{IfValue}
 use Rattle.cl_cond.specs.declared.eval.IfValue.TheVariants.{Value, BadIf}
-use Rattle.cl_cond.specs.declared.mark.Condition.{Condition}
-use Rattle.cl_cond.specs.declared.mark.Condition.TheVariants.{If, IfDef, IfNDef, Elif, Else}
 use Rattle.cl_cond.specs.declared.mark.Mark.{Mark}
 use Rattle.cl_base.specs.Tokens.{is_hash, is_ident, is_word}
-use Rattle.cl_pp.specs.Defined.{decided, span_at, spread}
+use Rattle.cl_pp.specs.Defined.{span_at, spread}
 
 abbrev pub diag : ℕ → ℕ → ℕ → Diag
 diag number from to = record { number = number; at = span_at from to; name = None }
@@ -39,10 +37,6 @@ is_directive (token ∷ tokens) = is_hash token
 
 abbrev pub spread_line : List Token → List PpToken
 spread_line line = map spread line
-
--- those of an active line; a directive gives none
-abbrev pub plain_tokens : List Token → List PpToken
-plain_tokens line = if is_directive line then [] else spread_line line
 
 -- ---- what lexing tells
 
@@ -87,16 +81,6 @@ abbrev pub extra : List Token → List Diag
 extra [] = []
 extra (token ∷ tokens) = fault_at 7 token
 
--- an identifier alone
-abbrev pub name_alone : Token → List Token → List Diag
-name_alone name [] = fault_at 6 name
-name_alone name (token ∷ rest) = if is_ident token.kind then extra rest else fault_at 6 name
-
--- an identifier first
-abbrev pub name_first : Token → List Token → List Diag
-name_first name [] = fault_at 6 name
-name_first name (token ∷ rest) = if is_ident token.kind then [] else fault_at 6 name
-
 abbrev pub is_header : Kind → Bool
 is_header kind.Header = true
 is_header _ = false
@@ -105,58 +89,42 @@ abbrev pub included : List Token → List Diag
 included [] = []
 included (token ∷ rest) = if is_header token.kind then extra rest else []
 
-abbrev pub named : Token → List Token → List Diag
-named name rest =
-    if is_word name (codes "define") then name_first name rest else
-    if is_word name (codes "undef") then name_alone name rest else
-    if is_word name (codes "include") then included rest else
-    if is_word name (codes "line") || is_unread name then [] else fault_at 5 name
+-- where the first of these tokens is written
+abbrev pub place_of : List Token → Span
+place_of [] = span_at 0 0
+place_of (token ∷ tokens) = span_at token.from token.to
 
--- a line that is no conditional directive
-abbrev pub plain_faults : List Token → List Diag
-plain_faults (hash ∷ name ∷ rest) = if is_hash hash then named name rest else []
-plain_faults _ = []
+-- a definition that is none, at its name
+abbrev pub invalid : List Token → List Diag
+invalid tokens = record { number = 18; at = place_of tokens; name = None } ∷ []
 
-abbrev pub alone_in : List Token → List Diag
-alone_in (hash ∷ name ∷ rest) = name_alone name rest
-alone_in _ = []
+-- a definition that differs from the one that stands, at its name
+abbrev pub redefined : List ℕ → List Token → List Diag
+redefined name tokens = record { number = 16; at = place_of tokens; name = Some name } ∷ []
 
--- ---- conditions
+-- ---- faults among tokens that are made
 
 abbrev pub token_span : Option Token → Span
 token_span (Some token) = span_at token.from token.to
 token_span None = span_at 0 0
 
--- the token of a condition at a place, and the line's last one where it has none
+-- the token at a place, and the line's last one where there is none
 abbrev pub span_or : Option PpToken → List Token → Span
 span_or (Some token) line = token.at
 span_or None line = token_span (slice_get line (length line - 1))
 
-abbrev pub bad_if : Option IfValue → List Token → List Diag
-bad_if (Some (BadIf place)) line = record { number = 15; at = span_or (slice_get (decided (rest_of line)) place) line; name = None } ∷ []
-bad_if _ line = []
+abbrev pub fault_in : ℕ → List PpToken → ℕ → List Token → List Diag
+fault_in number made place line = record { number = number; at = span_or (slice_get made place) line; name = None } ∷ []
+
+abbrev pub bad_if : IfValue → List PpToken → List Token → List Diag
+bad_if (BadIf place) made line = fault_in 15 made place line
+bad_if (Value bits unsigned) made line = []
+
+abbrev pub bad_line : Option ℕ → List PpToken → List Token → List Diag
+bad_line (Some place) made line = fault_in 23 made place line
+bad_line None made line = []
 
 -- a condition that is at fault counts 0
-abbrev pub is_true : Option IfValue → Bool
-is_true (Some (Value bits unsigned)) = not (bits == 0)
-is_true _ = false
-
-abbrev pub has_name : List Token → Bool
-has_name [] = false
-has_name (token ∷ tokens) = is_ident token.kind
-
--- whether the condition is fulfilled; no macro is defined at this stage
-abbrev pub branch_holds : Condition → List Token → Option IfValue → Bool
-branch_holds If line value = is_true value
-branch_holds Elif line value = is_true value
-branch_holds IfDef line value = false
-branch_holds IfNDef line value = has_name (rest_of line)
-branch_holds Else line value = true
-
--- the faults of a branch's line that is looked at
-abbrev pub branch_faults : Condition → List Token → Option IfValue → List Diag
-branch_faults If line value = bad_if value line
-branch_faults Elif line value = bad_if value line
-branch_faults IfDef line value = alone_in line
-branch_faults IfNDef line value = alone_in line
-branch_faults Else line value = extra (rest_of line)
+abbrev pub is_true : IfValue → Bool
+is_true (Value bits unsigned) = not (bits == 0)
+is_true (BadIf place) = false

@@ -1,75 +1,95 @@
--- What a file is after preprocessing (N1570 5.1.1.2 phase 4, 6.10), where no macro is defined and no file is entered.
-use Rattle.std.specs.Prelude.{◌≡◌, ℕ, ◌==◌, Bool, if◌then◌else◌, List, [], ◌∷◌, ◌++◌, map, filter, Option}
+-- What a file is after preprocessing (N1570 5.1.1.2 phase 4, 6.10), where no file is entered.
+use Rattle.std.specs.Prelude.{◌≡◌, ℕ, ◌+◌, ◌==◌, Bool, List, [], ◌∷◌, ◌++◌, map, filter, Option, None}
+use Rattle.cl_base.specs.declared.token.Kind.{Kind}
+use Rattle.cl_base.specs.declared.token.Span.{Span}
 use Rattle.cl_base.specs.declared.token.Token.{Token}
-use Rattle.cl_base.specs.declared.token.PpToken.{PpToken}
 use Rattle.cl_base.specs.declared.token.Diag.{Diag}
 use Rattle.cl_base.specs.declared.token.Fault.{Fault}
 use Rattle.cl_base.specs.declared.token.Lexed.{Lexed}
-use Rattle.cl_base.specs.declared.token.PpDone.{PpDone}
+use Rattle.cl_pp.specs.declared.done.PpDone.{PpDone}
+use Rattle.cl_base.specs.declared.macros.Macro.{Macro}
+use Rattle.cl_base.specs.Lines.{line_at}
 use Rattle.cl_lex.specs.Lexing.{Lexes}
-use Rattle.cl_cond.specs.declared.eval.IfValue.{IfValue}
 use Rattle.cl_cond.specs.declared.mark.Mark.{Mark}
 use Rattle.cl_cond.specs.declared.mark.Groups.{Groups}
-use Rattle.cl_cond.specs.declared.mark.Part.{Part}
-use Rattle.cl_cond.specs.declared.mark.Part.TheVariants.{Line, Branch, End}
-use Rattle.cl_cond.specs.Sections.{GroupsOf, opens}
-use Rattle.cl_pp.specs.Activity.{Passed, Question, Active, Outer, says}
-use Rattle.cl_pp.specs.Branches.{IsWorked, held_by, works}
-use Rattle.cl_pp.specs.Lines.{branch_faults, extra, line_of, line_strays, plain_faults, plain_tokens, rest_of, spread_fault, told}
+use Rattle.cl_cond.specs.Sections.{GroupsOf}
+use Rattle.cl_macro.specs.Rules.{Rules, TellsTokens}
+use Rattle.cl_macro.specs.Strings.{escaped, quoted}
+use Rattle.cl_pp.specs.Activity.{Passed, says}
+use Rattle.cl_pp.specs.Acts.{Act, act}
+use Rattle.cl_pp.specs.Lines.{line_of, spread_fault, told}
+use Rattle.cl_pp.specs.Runs.{runs}
+use Rattle.cl_pp.specs.Standing.{macro_at, number_at}
+use Rattle.cl_pp.specs.Taking.{Takes}
 
--- the tokens of a line: those of an active text line, and none of a directive
-abbrev pub tokens_by : Part → Bool → List Token → List PpToken
-tokens_by Line active line = if active then plain_tokens line else []
-tokens_by _ active line = []
+-- what preprocessing goes by: the file's path and text, the faults of lexing by the bytes at which they begin, which
+-- spellings are one token, and what the names mean before the file
+pub record World : Type 0 where
+  pub path : List ℕ
+  pub text : List ℕ
+  pub begins : ℕ → Option Fault
+  pub one_token : List ℕ → Option Kind
+  pub start : List ℕ → Option Macro
 
-module _ (begins : ℕ → Option Fault) where
-  abbrev pub if_looked_at : Bool → List Token → List Diag → List Diag
-  if_looked_at looked line more = if looked then line_strays begins line ++ more else []
+-- within the file: the lines that were passed, the newest first, and what stands
+pub record State : Type 0 where
+  pub past : List Passed
+  pub done : PpDone
 
-  -- the faults of a line: those of lexing, and its own; none counts in a group that is skipped
-  abbrev pub faults_by : Part → (Question → Bool) → List Token → Option IfValue → List Diag
-  faults_by Line answer line value = if_looked_at (answer Active) line (plain_faults line)
-  faults_by End answer line value = if_looked_at (answer Outer) line (extra (rest_of line))
-  faults_by (Branch c) answer line value = if_looked_at (answer (if opens c then Active else Outer)) line (branch_faults c line value)
+-- behind a line
+abbrev pub behind : Mark → Bool → PpDone → State → State
+behind mark held done s = record { past = record { part = mark.part; held = held } ∷ s.past; done = done }
 
-module _ (tokens : List Token) where
-  abbrev pub answers : List Passed → Question → Bool
-  answers past q = says q 0 past
+-- how macros are replaced, where the names mean so (6.10.3, 6.10.8.1)
+abbrev pub rules_in : World → (List ℕ → Option Macro) → Span → Rules
+rules_in w macros at = record {
+  macros = macros;
+  one_token = w.one_token;
+  here = record { file = quoted (escaped w.path); line = line_at w.text at.from + 1 };
+}
 
-  -- a line behind those that were passed, whose condition came to this value
-  abbrev pub passed : List Passed → Mark → Option IfValue → Passed
-  passed past mark value = record { part = mark.part; held = held_by mark.part (line_of tokens mark) value }
+module _ (w : World) (tokens : List Token) where
+  -- what is done with a line where the names mean so
+  abbrev pub act_at : (List ℕ → Option Macro) → State → Mark → Act
+  act_at macros s mark = act w.begins macros mark.part (λ q. says q 0 s.past) (line_of tokens mark) s.done
 
-  -- what the conditions of these lines come to, behind those that were passed, where they are worked
-  abbrev pub AreValues : List Passed → List Mark → List (Option IfValue) → Type 0
-  AreValues past [] [] = Unit {0}
-  AreValues past [] (value ∷ values) = ⊥
-  AreValues past (mark ∷ marks) [] = ⊥
-  AreValues past (mark ∷ marks) (value ∷ values) = IsWorked (works mark.part (answers past)) (line_of tokens mark) value × AreValues (passed past mark value ∷ past) marks values
+  abbrev pub TakesLine : State → Mark → Bool → PpDone → Type 0
+  TakesLine s mark held done = Takes (rules_in w (macro_at w.start s.done)) (number_at s.done) (line_of tokens mark) (act_at (macro_at w.start s.done) s mark) held done
 
-  -- the tokens and the faults of these lines
-  abbrev pub tokens_from : List Passed → List Mark → List (Option IfValue) → List PpToken
-  tokens_from past [] values = []
-  tokens_from past (mark ∷ marks) [] = []
-  tokens_from past (mark ∷ marks) (value ∷ values) = tokens_by mark.part (answers past Active) (line_of tokens mark) ++ tokens_from (passed past mark value ∷ past) marks values
+  -- These lines are gone over in order, from what stood before to what stands then.
+  pub data Goes : List Mark → State → State → Type 0 where
+    end : (s : State) → Goes [] s s
+    line : (mark : Mark) (marks : List Mark) (s : State) (held : Bool) (done : PpDone) (t : State)
+        → TakesLine s mark held done → Goes marks (behind mark held done s) t → Goes (mark ∷ marks) s t
 
-  abbrev pub faults_from : (ℕ → Option Fault) → List Passed → List Mark → List (Option IfValue) → List Diag
-  faults_from begins past [] values = []
-  faults_from begins past (mark ∷ marks) [] = []
-  faults_from begins past (mark ∷ marks) (value ∷ values) =
-      faults_by begins mark.part (answers past) (line_of tokens mark) value ++ faults_from begins (passed past mark value ∷ past) marks values
+  -- the first lines are gone over, and from what stands then the others
+  pub record Through (lines more : List Mark) (s t : State) : Type 0 where
+    pub mid : State
+    pub first : Goes lines s mid
+    pub later : Goes more mid t
 
 -- a comment without an end is a fault wherever it stands
 abbrev pub open_comments : List Fault → List Diag
 open_comments faults = map spread_fault (filter (λ fault. fault.number == 1) faults)
 
--- the tokens of the active lines, and the faults: of comments, of if-sections, and of the lines in order
-pub record Preprocesses (text : List ℕ) (done : PpDone) : Type 0 where
+-- before the first line
+abbrev pub begin : List Fault → List Fault → State
+begin lexed groups = record {
+  past = [];
+  done = record { tokens = []; events = []; uses = []; looked = []; faults = open_comments lexed ++ map spread_fault groups };
+}
+
+abbrev pub world_of : List ℕ → List ℕ → List Fault → (List ℕ → Option Kind) → (List ℕ → Option Macro) → World
+world_of path text faults one_token start = record { path = path; text = text; begins = told faults; one_token = one_token; start = start }
+
+-- the lines of the text, gone over
+pub record Preprocesses (start : List ℕ → Option Macro) (path text : List ℕ) (done : PpDone) : Type 0 where
+  pub one_token : List ℕ → Option Kind
+  pub tells : TellsTokens one_token
   pub lexed : Lexed
   pub lexes : Lexes text lexed
   pub groups : Groups
   pub grouped : GroupsOf lexed.tokens groups
-  pub values : List (Option IfValue)
-  pub evaluated : AreValues lexed.tokens [] groups.marks values
-  pub tokens : done.tokens ≡ tokens_from lexed.tokens [] groups.marks values
-  pub faults : done.faults ≡ open_comments lexed.faults ++ (map spread_fault groups.faults ++ faults_from lexed.tokens (told lexed.faults) [] groups.marks values)
+  pub last : State
+  pub goes : Goes (world_of path text lexed.faults one_token start) lexed.tokens (runs lexed.tokens groups.marks) (begin lexed.faults groups.faults) last
+  pub is : done ≡ last.done

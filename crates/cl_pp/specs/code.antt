@@ -1,1 +1,5 @@
 pub mod Stacks
+pub mod Keeping
+pub mod Going
+pub mod Numbers
+pub mod Defining

@@ -1,56 +1,28 @@
 //! The lines that begin a branch of an if-section (N1570 6.10.1).
 
-ghost use Rattle.std.specs.Prelude.{◌≡◌, ◌++◌, ◌&&◌, OnOk, IfOk, Some, slice_get};
-ghost use Rattle.cl_cond.specs.Conditions.{EvaluatesTo};
-ghost use Rattle.cl_cond.specs.Words.{words_from};
-ghost use Rattle.cl_pp.specs.Branches.{IsWorked, has_expression, held_by, may_take, works};
-ghost use Rattle.cl_pp.specs.Defined.{decided};
-ghost use Rattle.cl_pp.specs.Lines.{bad_if, branch_faults, branch_holds, has_name, is_true, rest_of, span_or};
+ghost use Rattle.std.specs.Prelude.{◌≡◌, ◌≤◌, ◌++◌, length, IfOk, OnOk};
+ghost use Rattle.cl_pp.specs.Acts.{Gives, asking, by_name, is_looked_at, may_take, passed_by, taken, tested};
+ghost use Rattle.cl_pp.specs.Lines.{bad_if, is_true, rest_of};
+ghost use Rattle.cl_pp.specs.Places.{Within};
+ghost use Rattle.cl_pp.specs.Preprocessing.{World, rules_in};
+ghost use Rattle.cl_pp.specs.Taking.{Takes};
+ghost use Rattle.cl_pp.specs.code.Keeping.{Sees, Suits, lookup, number_of};
 ghost use Rattle.cl_pp.specs.code.Stacks.{tell};
 
-use crate::defined::decided;
-use crate::line::{alone_in, extra, rest_of};
+use crate::defined::{asked, decided, is_defined};
+use crate::line::{extra, nameless, rest_of};
+use crate::looked::{look, look_all};
+use crate::made::{File, Made, Reach};
+use crate::replacing::replaced;
 use crate::section::{Section, opens};
-use crate::token::span_at;
-use cl_base::{Diag, List, Mem, PpToken, Span, Token};
-use cl_cond::{Condition, IfValue, Part, eval_if};
+use crate::token::fault_in;
+use cl_base::{Diag, List, Mem, PpToken, Token};
+use cl_cond::{Condition, IfValue, eval_if};
+use cl_macro::MacroTable;
 use std::alloc::Global;
 
-/// What the condition of a line comes to, if it is worked: only an expression is whose branch may be taken.
-pub(crate) fn value(
-    alloc: Global,
-    part: Part,
-    here: Section,
-    line: &[Token],
-) -> Mem<Option<IfValue>>
-    ensures { IfOk result (λ value. IsWorked (works part (tell here)) line.now value) }
-{
-    if works(part, here) {
-        let value = worked(alloc, line)?;
-        Ok(Some(value))
-    } else {
-        Ok(None)
-    }
-}
-
-/// Whether the line has an expression that is worked.
-fn works(part: Part, here: Section) -> bool
-    ensures { result ≡ works part (tell here) }
-{
-    match part {
-        Part::Branch(condition) => has_expression(condition) && may_take(condition, here),
-        Part::Line | Part::End => false,
-    }
-}
-
-fn has_expression(condition: Condition) -> bool
-    ensures { result ≡ has_expression condition }
-{
-    matches!(condition, Condition::If | Condition::Elif)
-}
-
 /// Whether the branch that begins there may be taken.
-fn may_take(condition: Condition, here: Section) -> bool
+pub(crate) fn may_take(condition: Condition, here: Section) -> bool
     ensures { result ≡ may_take condition (tell here) }
 {
     if opens(condition) {
@@ -60,109 +32,131 @@ fn may_take(condition: Condition, here: Section) -> bool
     }
 }
 
-/// What the expression of a line comes to.
-fn worked(alloc: Global, line: &[Token]) -> Mem<IfValue>
-    ensures { IfOk result (λ value. EvaluatesTo (words_from 0 (decided (rest_of line.now))) value) }
+/// Whether the line is looked at.
+pub(crate) fn is_looked_at(condition: Condition, here: Section) -> bool
+    ensures { result ≡ is_looked_at condition (tell here) }
 {
-    let condition = decided(alloc, rest_of(line))?;
-    let value = eval_if(alloc, condition.as_slice())?;
-    Ok(value)
-}
-
-/// Whether the line begins a branch whose condition is fulfilled. One that isn't worked is not.
-pub(crate) fn held(part: Part, line: &[Token], value: Option<IfValue>) -> bool
-    ensures { result ≡ held_by part line.now value }
-{
-    match part {
-        Part::Branch(condition) => branch_holds(condition, line, value),
-        Part::Line | Part::End => false,
+    if opens(condition) {
+        here.active
+    } else {
+        here.outer
     }
 }
 
-/// Whether the condition is fulfilled.
-fn branch_holds(condition: Condition, line: &[Token], value: Option<IfValue>) -> bool
-    ensures { result ≡ branch_holds condition line.now value }
+/// Goes over the line of a branch that may be taken, and answers whether its condition is fulfilled.
+pub(crate) fn taken(
+    alloc: Global,
+    file: &File,
+    table: &MacroTable,
+    made: &mut Made,
+    condition: Condition,
+    line: &[Token],
+) -> Mem<bool>
+    requires { Sees made.now }
+    ensures done { (w : World) → Suits file.now w → Within (length w.text) line.now → IfOk result (λ held. Takes (rules_in w (lookup table.now)) (number_of table.now) line.now (taken (lookup table.now) condition line.now made.old.done) held made.new.done) }
+    ensures events { OnOk result (made.new.done.events ≡ made.old.done.events) }
+    ensures sees { OnOk result (Sees made.new) }
 {
     match condition {
-        Condition::If | Condition::Elif => is_true(value),
-        Condition::IfDef => false,
-        Condition::IfNDef => has_name(rest_of(line)),
-        Condition::Else => true,
+        Condition::If | Condition::Elif => ask(alloc, file, table, made, line),
+        Condition::IfDef => tested(alloc, table, made, true, line),
+        Condition::IfNDef => tested(alloc, table, made, false, line),
+        Condition::Else => {
+            extra(&mut made.done.faults, rest_of(line))?;
+            Ok(true)
+        }
     }
 }
 
-/// Whether an expression holds that came to this value.
-fn is_true(value: Option<IfValue>) -> bool
+/// Goes over the line of a branch that may not be taken, and answers whether it is an `#else`.
+pub(crate) fn passed_by(made: &mut Made, condition: Condition, line: &[Token]) -> Mem<bool>
+    requires { Sees made.now }
+    ensures done { IfOk result (λ held. passed_by condition line.now made.old.done ≡ Gives held made.new.done) }
+    ensures events { OnOk result (made.new.done.events ≡ made.old.done.events) }
+    ensures sees { OnOk result (Sees made.new) }
+{
+    match condition {
+        Condition::Else => {
+            extra(&mut made.done.faults, rest_of(line))?;
+            Ok(true)
+        }
+        Condition::If | Condition::IfDef | Condition::IfNDef | Condition::Elif => Ok(false),
+    }
+}
+
+/// Whether a condition is fulfilled that looks for a macro, or for none.
+fn by_name(wanted: bool, defined: bool) -> bool
+    ensures { result ≡ by_name wanted defined }
+{
+    if wanted { defined } else { !defined }
+}
+
+/// Goes over an `#ifdef` or `#ifndef`, and answers whether its condition is fulfilled.
+fn tested(
+    alloc: Global,
+    table: &MacroTable,
+    made: &mut Made,
+    wanted: bool,
+    line: &[Token],
+) -> Mem<bool>
+    requires { Sees made.now }
+    ensures done { IfOk result (λ held. tested (lookup table.now) wanted line.now (rest_of line.now) made.old.done ≡ Gives held made.new.done) }
+    ensures events { OnOk result (made.new.done.events ≡ made.old.done.events) }
+    ensures sees { OnOk result (Sees made.new) }
+{
+    let Some((name, rest)) = rest_of(line).split_first() else {
+        nameless(&mut made.done.faults, line)?;
+        return Ok(false);
+    };
+    if !name.kind.is_ident() {
+        nameless(&mut made.done.faults, line)?;
+        return Ok(false);
+    }
+    look(alloc, made, &name.text)?;
+    extra(&mut made.done.faults, rest)?;
+    let defined = is_defined(alloc, table, &name.text)?;
+    Ok(by_name(wanted, defined))
+}
+
+/// Goes over an `#if` or `#elif`, and answers whether its condition is fulfilled.
+fn ask(
+    alloc: Global,
+    file: &File,
+    table: &MacroTable,
+    made: &mut Made,
+    line: &[Token],
+) -> Mem<bool>
+    requires { Sees made.now }
+    ensures done { (w : World) → Suits file.now w → Within (length w.text) line.now → IfOk result (λ held. Takes (rules_in w (lookup table.now)) (number_of table.now) line.now (asking (lookup table.now) line.now made.old.done) held made.new.done) }
+    ensures events { OnOk result (made.new.done.events ≡ made.old.done.events) }
+    ensures sees { OnOk result (Sees made.new) }
+{
+    let names = asked(alloc, rest_of(line))?;
+    look_all(alloc, made, names.as_slice())?;
+    let tokens = decided(alloc, table, rest_of(line))?;
+    let reach = Reach::Directive(made.done.tokens.len() as u32);
+    let tokens = replaced(alloc, file, table, made, reach, tokens.as_slice())?;
+    let value = eval_if(alloc, tokens.as_slice())?;
+    bad_if(&mut made.done.faults, value, tokens.as_slice(), line)?;
+    Ok(is_true(value))
+}
+
+/// Whether a condition holds that came to this value.
+fn is_true(value: IfValue) -> bool
     ensures { result ≡ is_true value }
 {
     match value {
-        Some(IfValue::Value { bits, .. }) => bits != 0,
-        Some(IfValue::BadIf { .. }) | None => false,
+        IfValue::Value { bits, .. } => bits != 0,
+        IfValue::BadIf { .. } => false,
     }
 }
 
-/// Whether an identifier stands first.
-fn has_name(rest: &[Token]) -> bool
-    ensures { result ≡ has_name rest.now }
-{
-    match rest.split_first() {
-        Some((token, _)) => token.kind.is_ident(),
-        None => false,
-    }
-}
-
-/// Adds the faults of a branch's line that is looked at.
-pub(crate) fn branch_faults(
-    alloc: Global,
-    faults: &mut List<Diag>,
-    condition: Condition,
-    line: &[Token],
-    value: Option<IfValue>,
-) -> Mem<()>
-    ensures { OnOk result (faults.new ≡ faults.old ++ branch_faults condition line.now value) }
-{
-    match condition {
-        Condition::If | Condition::Elif => bad_if(alloc, faults, value, line),
-        Condition::IfDef | Condition::IfNDef => alone_in(faults, line),
-        Condition::Else => extra(faults, rest_of(line)),
-    }
-}
-
-/// Adds fault 15, if the expression of a line is at fault.
-fn bad_if(alloc: Global, faults: &mut List<Diag>, value: Option<IfValue>, line: &[Token]) -> Mem<()>
-    ensures { OnOk result (faults.new ≡ faults.old ++ bad_if value line.now) }
+/// Adds fault 15, if a condition is at fault.
+fn bad_if(faults: &mut List<Diag>, value: IfValue, made: &[PpToken], line: &[Token]) -> Mem<()>
+    ensures { OnOk result (faults.new ≡ faults.old ++ bad_if value made.now line.now) }
 {
     match value {
-        Some(IfValue::BadIf { place }) => {
-            let at = fault_span(alloc, place as usize, line)?;
-            faults.push(Diag {
-                number: 15,
-                at,
-                name: None,
-            })
-        }
-        Some(IfValue::Value { .. }) | None => Ok(()),
-    }
-}
-
-/// Where the token lies that is at fault in a line's expression.
-fn fault_span(alloc: Global, place: usize, line: &[Token]) -> Mem<Span>
-    ensures { IfOk result (λ span. span ≡ span_or (slice_get (decided (rest_of line.now)) place) line.now) }
-{
-    let condition = decided(alloc, rest_of(line))?;
-    let span = span_or(condition.as_slice(), place, line);
-    Ok(span)
-}
-
-/// Where a condition's token lies, or the line's last one, if it has none at this place.
-fn span_or(condition: &[PpToken], place: usize, line: &[Token]) -> Span
-    ensures { result ≡ span_or (slice_get condition.now place) line.now }
-{
-    match condition.get(place) {
-        Some(token) => token.at,
-        None => match line.last() {
-            Some(last) => span_at(last.from, last.to),
-            None => span_at(0, 0),
-        },
+        IfValue::BadIf { place } => fault_in(faults, 15, made, place as usize, line),
+        IfValue::Value { .. } => Ok(()),
     }
 }

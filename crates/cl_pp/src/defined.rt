@@ -1,27 +1,92 @@
 //! The tokens of a condition, with `defined` decided.
 
-ghost use Rattle.std.specs.Prelude.{◌≡◌, ◌<◌, ◌≤◌, ◌+◌, length, IfOk};
-ghost use Rattle.cl_pp.specs.Defined.{decided, end_after, named_len, operand_len, replaced, taken, zero_for};
+ghost use Rattle.std.specs.Prelude.{◌≡◌, ◌<◌, ◌≤◌, ◌+◌, ◌++◌, length, is_some, IfOk, OnOk};
+ghost use Rattle.std.specs.Option.{option_copied};
+ghost use Rattle.cl_pp.specs.Defined.{asked, asked_for, decided, digit, end_after, named_len, number_for, operand_len, operand_name, replaced, taken, text_of};
+ghost use Rattle.cl_pp.specs.code.Keeping.{lookup};
 
 use crate::token::{span_at, spread};
-use cl_base::{Kind, List, Mem, Name, PpToken, Token};
+use cl_base::{Duplicate, EmptyBase, Kind, List, Mem, Name, PpToken, Token};
+use cl_macro::MacroTable;
 use std::alloc::Global;
 
-/// The tokens of a condition, where each `defined NAME` and `defined ( NAME )` is 0: no macro is defined
-/// (N1570 6.10.1p1).
-pub(crate) fn decided(alloc: Global, tokens: &[Token]) -> Mem<List<PpToken>>
-    ensures { IfOk result (λ all. all ≡ decided tokens.now) }
+/// The tokens of a condition, where each `defined NAME` and `defined ( NAME )` is 1 or 0 (N1570 6.10.1p1).
+pub(crate) fn decided(alloc: Global, table: &MacroTable, tokens: &[Token]) -> Mem<List<PpToken>>
+    ensures { IfOk result (λ all. all ≡ decided (lookup table.now) tokens.now) }
 {
     let mut all = List::new(alloc);
     let mut rest = tokens;
     while let Some((token, after)) = rest.split_first() {
         let count = taken(token, after);
-        let token = replaced(alloc, token, count, after)?;
+        let token = replaced(alloc, table, token, count, after)?;
         all.push(token)?;
         let (_, left) = after.split_at(count);
         rest = left;
     }
     Ok(all)
+}
+
+/// Whether the name is a macro.
+pub(crate) fn is_defined(alloc: Global, table: &MacroTable, name: &Name) -> Mem<bool>
+    ensures { IfOk result (λ holds. holds ≡ is_some (lookup table.now name.now)) }
+{
+    let found = table.find(alloc, &EmptyBase, name)?;
+    Ok(found.is_some())
+}
+
+/// The names that a condition asks for.
+pub(crate) fn asked(alloc: Global, tokens: &[Token]) -> Mem<List<Name>>
+    ensures { IfOk result (λ names. names ≡ asked tokens.now) }
+{
+    let mut names = List::new(alloc);
+    let mut rest = tokens;
+    while let Some((token, after)) = rest.split_first() {
+        let count = taken(token, after);
+        ask_for(alloc, &mut names, token, count, after)?;
+        let (_, left) = after.split_at(count);
+        rest = left;
+    }
+    Ok(names)
+}
+
+/// Adds the name that is asked for by the token and those that belong to it, if they ask for one.
+fn ask_for(
+    alloc: Global,
+    names: &mut List<Name>,
+    token: &Token,
+    count: usize,
+    rest: &[Token],
+) -> Mem<()>
+    requires { count ≡ taken token.now rest.now }
+    ensures { OnOk result (names.new ≡ names.old ++ asked_for token.now rest.now) }
+{
+    if count == 0 {
+        return Ok(());
+    }
+    let name = name_of(alloc, rest)?;
+    names.push(name)
+}
+
+/// The name in an operand.
+fn name_of(alloc: Global, operand: &[Token]) -> Mem<Name>
+    ensures { IfOk result (λ name. name ≡ operand_name operand.now) }
+{
+    match operand_token(operand) {
+        Some(token) => token.text.duplicate(alloc),
+        None => Name::new(alloc, b"".as_slice()),
+    }
+}
+
+/// The token that is the name in an operand.
+fn operand_token(operand: &[Token]) -> Option<&Token>
+    ensures { text_of (option_copied result) ≡ operand_name operand.entry.now }
+{
+    let (first, rest) = operand.split_first()?;
+    if first.kind.is_ident() {
+        Some(first)
+    } else {
+        rest.first()
+    }
 }
 
 /// How many tokens behind this one belong to it.
@@ -71,24 +136,49 @@ fn named_len(tokens: &[Token]) -> usize
     }
 }
 
-/// The token, or a 0 for it and those that belong to it.
-fn replaced(alloc: Global, token: &Token, count: usize, rest: &[Token]) -> Mem<PpToken>
+/// The token, or a number for it and those that belong to it.
+fn replaced(
+    alloc: Global,
+    table: &MacroTable,
+    token: &Token,
+    count: usize,
+    rest: &[Token],
+) -> Mem<PpToken>
     requires { count ≡ taken token.now rest.now }
-    ensures { IfOk result (λ it. it ≡ replaced token.now rest.now) }
+    ensures { IfOk result (λ it. it ≡ replaced (lookup table.now) token.now rest.now) }
 {
     if count == 0 {
         spread(alloc, token)
     } else {
-        zero_for(alloc, token, count, rest)
+        let name = name_of(alloc, rest)?;
+        let holds = is_defined(alloc, table, &name)?;
+        number_for(alloc, holds, token, count, rest)
     }
 }
 
-/// A number 0 for the token and so many behind it.
-fn zero_for(alloc: Global, token: &Token, count: usize, rest: &[Token]) -> Mem<PpToken>
-    requires { 0 < count }
-    ensures { IfOk result (λ it. it ≡ zero_for token.now count rest.now) }
+/// The digit of a condition that holds, or doesn't.
+fn digit(alloc: Global, holds: bool) -> Mem<Name>
+    ensures { IfOk result (λ name. name ≡ digit holds) }
 {
-    let text = Name::new(alloc, b"0".as_slice())?;
+    if holds {
+        Name::new(alloc, b"1".as_slice())
+    } else {
+        Name::new(alloc, b"0".as_slice())
+    }
+}
+
+/// A number for the token and so many behind it.
+fn number_for(
+    alloc: Global,
+    holds: bool,
+    token: &Token,
+    count: usize,
+    rest: &[Token],
+) -> Mem<PpToken>
+    requires { 0 < count }
+    ensures { IfOk result (λ it. it ≡ number_for holds token.now count rest.now) }
+{
+    let text = digit(alloc, holds)?;
     Ok(PpToken {
         kind: Kind::Number,
         text,

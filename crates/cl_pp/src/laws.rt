@@ -1,19 +1,28 @@
-//! What holds of every text, and of every section.
+//! What holds of every text.
 
-ghost use Rattle.std.specs.Prelude.{◌≡◌, ◌&&◌, ℕ, List, ◌∷◌};
-ghost use Rattle.cl_base.specs.declared.token.PpDone.{PpDone};
+ghost use Rattle.std.specs.Prelude.{◌≡◌, ◌&&◌, ℕ, Bool, List, ◌∷◌, ◌++◌, Option};
+ghost use Rattle.cl_base.specs.declared.macros.Macro.{Macro};
+ghost use Rattle.cl_pp.specs.declared.done.PpDone.{PpDone};
+ghost use Rattle.cl_base.specs.declared.token.Token.{Token};
+ghost use Rattle.cl_cond.specs.declared.mark.Mark.{Mark};
 ghost use Rattle.cl_pp.specs.Activity.{Active, Passed, Question, says};
 ghost use Rattle.cl_pp.specs.Branching.{Arm, IsSection, IsWhole, behind, laid, none_held};
-ghost use Rattle.cl_pp.specs.Preprocessing.{Preprocesses};
+ghost use Rattle.cl_pp.specs.Preprocessing.{Goes, Preprocesses, State, Through, World};
 
-/// A text has one list of preprocessed tokens, and one list of faults.
+/// A text comes to one list of tokens, with one list of each kind beside it.
 pub fn one_preprocessing()
-    ensures { (text : List ℕ) (x y : PpDone) → Preprocesses text x → Preprocesses text y → x ≡ y }
+    ensures { (start : List ℕ → Option Macro) (path text : List ℕ) (x y : PpDone) → Preprocesses start path text x → Preprocesses start path text y → x ≡ y }
 {}
 
-/// Every text has a preprocessing.
+/// Every text comes to something.
 pub fn some_preprocessing()
-    ensures { (text : List ℕ) → (done : PpDone) × Preprocesses text done }
+    ensures { (start : List ℕ → Option Macro) (path text : List ℕ) → (done : PpDone) × Preprocesses start path text done }
+{}
+
+/// Going over lines and then others is going over both.
+pub fn resumed()
+    ensures splits { (w : World) (tokens : List Token) (lines more : List Mark) (s t : State) → Goes w tokens (lines ++ more) s t → Through w tokens lines more s t }
+    ensures joins { (w : World) (tokens : List Token) (lines more : List Mark) (s t : State) → Through w tokens lines more s t → Goes w tokens (lines ++ more) s t }
 {}
 
 /// Of the branches of a section one is active at most: the first whose condition is fulfilled, where the section stands

@@ -1,10 +1,10 @@
 //! What a token is.
 
-ghost use Rattle.std.specs.Prelude.{◌≡◌, IfOk};
+ghost use Rattle.std.specs.Prelude.{◌≡◌, ◌++◌, slice_get, IfOk, OnOk};
 ghost use Rattle.cl_pp.specs.Defined.{span_at, spread};
-ghost use Rattle.cl_pp.specs.Lines.{is_header, spread_fault};
+ghost use Rattle.cl_pp.specs.Lines.{fault_in, is_header, span_or, spread_fault};
 
-use cl_base::{Diag, Duplicate, Fault, Kind, Mem, PpToken, Span, Token};
+use cl_base::{Diag, Duplicate, Fault, Kind, List, Mem, PpToken, Span, Token};
 use std::alloc::Global;
 
 /// A place in the document, which is the file 0.
@@ -45,4 +45,34 @@ pub(crate) fn diag(fault: &Fault) -> Diag
         at: span_at(fault.from, fault.to),
         name: None,
     }
+}
+
+/// Where a token lies that was made, or the line's last one, if there is none at this place.
+fn span_or(made: &[PpToken], place: usize, line: &[Token]) -> Span
+    ensures { result ≡ span_or (slice_get made.now place) line.now }
+{
+    match made.get(place) {
+        Some(token) => token.at,
+        None => match line.last() {
+            Some(last) => span_at(last.from, last.to),
+            None => span_at(0, 0),
+        },
+    }
+}
+
+/// Adds a fault at the token of this number, or at the line's last one.
+pub(crate) fn fault_in(
+    faults: &mut List<Diag>,
+    number: u8,
+    made: &[PpToken],
+    place: usize,
+    line: &[Token],
+) -> Mem<()>
+    ensures { OnOk result (faults.new ≡ faults.old ++ fault_in number made.now place line.now) }
+{
+    faults.push(Diag {
+        number,
+        at: span_or(made, place, line),
+        name: None,
+    })
 }

@@ -1,13 +1,15 @@
 -- The symbols of the items so far, and those of the items that are left.
-use Rattle.std.proofs.Common.{◌≡◌, ℕ, ◌<◌, ◌≤◌, ◌+◌, suc, List, [], ◌∷◌, ◌++◌, sym, ap, ◌∙◌, length, drop, get_or, drop-cons, add-one, append_assoc, subst, arith}
+use Rattle.std.proofs.Common.{◌≡◌, ℕ, ◌<◌, ◌≤◌, ◌+◌, suc, List, [], ◌∷◌, ◌++◌, sym, ap, ◌∙◌, length, drop, get_or, drop-cons, add-one, append_assoc, subst, arith, inr}
 use Rattle.cl_base.specs.declared.answer.Symbol.{Symbol}
 use Rattle.cl_base.specs.declared.token.PpToken.{PpToken}
 use Rattle.cl_parse.specs.declared.item.Item.{Item}
 use Rattle.cl_parse.specs.declared.item.Item.TheVariants.{Proper, Bad}
 use Rattle.cl_parse.specs.Items.{ItemTiles, ItemsOf}
 use Rattle.cl_parse.specs.Tokens.{span_at}
-use Rattle.cl_pp.specs.Places.{InOrder}
-use Rattle.cl_query.proofs.Places.{one_after}
+use Rattle.cl_pp.specs.Places.{InOrder, nowhere}
+use Rattle.cl_query.proofs.Places.{ahead_of}
+use Rattle.cl_query.specs.declared.symbols.Walk.{Walk}
+use Rattle.cl_query.specs.Walking.{Ahead, IsAt}
 use Rattle.cl_query.specs.Symbols.{symbol_at, symbols_in}
 
 -- the item at a number, and those behind it
@@ -34,40 +36,40 @@ listed_proper text tokens items n d symbols from to symbol k l e is =
 
 -- ---- where the items left begin
 
--- the items that are left tile the tokens from one on, and none of these begins before an offset
-pub record Tiled (tokens : List PpToken) (items : List Item) (n offset : ℕ) : Type 0 where
+-- the items that are left tile the tokens from one on, and each of these is ahead of a walk
+pub record Tiled (tokens : List PpToken) (items : List Item) (n : ℕ) (walk : Walk) : Type 0 where
   pub at : ℕ
   pub tiles : ItemTiles tokens at (drop n items)
-  pub passed : (j : ℕ) → at ≤ j → j < length tokens → offset ≤ (span_at tokens j).from
+  pub passed : (j : ℕ) → at ≤ j → j < length tokens → Ahead walk (span_at tokens j)
 
-pub tiled_first : (tokens : List PpToken) (items : List Item) (offset : ℕ) → ItemsOf tokens items → offset ≡ 0 → Tiled tokens items 0 offset
-tiled_first tokens items offset h e = record { at = 0; tiles = h; passed = λ j l m. omega (arith, e) }
+pub tiled_first : (tokens : List PpToken) (items : List Item) (walk : Walk) → ItemsOf tokens items → walk.end.offset ≡ 0 → Tiled tokens items 0 walk
+tiled_first tokens items walk h e = record { at = 0; tiles = h; passed = λ j l m. inr (omega (arith, e)) }
 
 -- a declaration that is next begins with the token there, and has three
-pub record Next (tokens : List PpToken) (items : List Item) (n offset from : ℕ) : Type 0 where
+pub record Next (tokens : List PpToken) (items : List Item) (n : ℕ) (walk : Walk) (from : ℕ) : Type 0 where
   pub room : from + 2 < length tokens
-  pub before : offset ≤ (span_at tokens from).from
+  pub ahead : Ahead walk (span_at tokens from)
   pub rest : ItemTiles tokens (from + 3) (drop (n + 1) items)
 
 tiles_end : (tokens : List PpToken) (at : ℕ) (items : List Item) → ItemTiles tokens at items → at ≤ length tokens
 tiles_end tokens at [] h = omega arith
 tiles_end tokens at (item ∷ items) h = omega (arith, h.0)
 
-pub next_proper : (tokens : List PpToken) (items : List Item) (n offset : ℕ) (d : Item) (from to : ℕ) → Tiled tokens items n offset → n < length items → get_or items n d ≡ Proper from to → Next tokens items n offset from
-next_proper tokens items n offset d from to t l e =
+pub next_proper : (tokens : List PpToken) (items : List Item) (n : ℕ) (walk : Walk) (d : Item) (from to : ℕ) → Tiled tokens items n walk → n < length items → get_or items n d ≡ Proper from to → Next tokens items n walk from
+next_proper tokens items n walk d from to t l e =
     let tiles : ItemTiles tokens t.at (Proper from to ∷ drop (n + 1) items) = subst (ItemTiles tokens t.at) (next_item items n d (Proper from to) l e) t.tiles in
     let begins : from ≡ t.at = tiles.1.0 in
     let ends : to ≡ from + 3 = omega (arith, tiles.1.0, tiles.1.1) in
     let rest : ItemTiles tokens (from + 3) (drop (n + 1) items) = subst (λ (k : ℕ). ItemTiles tokens k (drop (n + 1) items)) ends tiles.2 in
     let most = tiles_end tokens (from + 3) (drop (n + 1) items) rest in
-    record { room = omega arith; before = t.passed from (omega arith) (omega arith); rest = rest }
+    record { room = omega arith; ahead = t.passed from (omega arith) (omega arith); rest = rest }
 
-pub tiled_proper : (tokens : List PpToken) (items : List Item) (n offset last end : ℕ) (from : ℕ) → InOrder 0 end tokens → Next tokens items n offset from → last ≡ (span_at tokens (from + 2)).to → Tiled tokens items (n + 1) last
-tiled_proper tokens items n offset last end from o h e =
-    record { at = from + 3; tiles = h.rest; passed = λ j l m. let r = one_after 0 end tokens (from + 2) j o (omega arith) m in omega (arith, e, r) }
+pub tiled_proper : (tokens : List PpToken) (items : List Item) (n end : ℕ) (walk last : Walk) (from : ℕ) → InOrder nowhere end tokens → Next tokens items n walk from → IsAt last (span_at tokens (from + 2)) → Tiled tokens items (n + 1) last
+tiled_proper tokens items n end walk last from o h e =
+    record { at = from + 3; tiles = h.rest; passed = λ j l m. ahead_of tokens end (from + 2) j last o (omega arith) m e }
 
-pub tiled_bad : (tokens : List PpToken) (items : List Item) (n offset : ℕ) (d : Item) (from to : ℕ) → Tiled tokens items n offset → n < length items → get_or items n d ≡ Bad from to → Tiled tokens items (n + 1) offset
-tiled_bad tokens items n offset d from to t l e =
+pub tiled_bad : (tokens : List PpToken) (items : List Item) (n : ℕ) (walk : Walk) (d : Item) (from to : ℕ) → Tiled tokens items n walk → n < length items → get_or items n d ≡ Bad from to → Tiled tokens items (n + 1) walk
+tiled_bad tokens items n walk d from to t l e =
     let tiles : ItemTiles tokens t.at (Bad from to ∷ drop (n + 1) items) = subst (ItemTiles tokens t.at) (next_item items n d (Bad from to) l e) t.tiles in
     let more : t.at < to = tiles.1.1.some in
     record { at = to; tiles = tiles.2; passed = λ j k m. t.passed j (omega arith) m }

@@ -1,49 +1,70 @@
 -- Where the tokens lie, by their numbers.
-use Rattle.std.proofs.Common.{ℕ, ◌≤◌, ◌<◌, ◌+◌, suc, zero, List, [], ◌∷◌, arith, length}
+use Rattle.std.proofs.Common.{◌≡◌, ℕ, ◌≤◌, ◌<◌, ◌+◌, suc, zero, List, [], ◌∷◌, sym, ap, ◌∙◌, arith, length, ◌⊎◌, inl, inr}
 use Rattle.cl_base.specs.declared.token.PpToken.{PpToken}
+use Rattle.cl_base.specs.declared.token.Span.{Span}
 use Rattle.cl_parse.specs.Tokens.{span_at}
-use Rattle.cl_pp.specs.Places.{InOrder}
+use Rattle.cl_pp.specs.Places.{Follows, InOrder, nowhere}
+use Rattle.cl_query.specs.declared.symbols.Walk.{Walk}
+use Rattle.cl_query.specs.Walking.{Ahead, IsAt}
 
-later : (at end : ℕ) (tokens : List PpToken) → InOrder at end tokens → at ≤ end
-later at end [] h = h
-later at end (t ∷ ts) h = let r = later t.at.to end ts h.2 in omega (arith, h.0, h.1, r)
+later : (before : Span) (end : ℕ) (tokens : List PpToken) → InOrder before end tokens → before.to ≤ end
+later before end [] h = h
+later before end (t ∷ ts) h = let r = later t.at end ts h.2 in after before t.at end h.0 h.1 r
+  where
+    after : (a b : Span) (end : ℕ) → Follows a b → b.from < b.to → b.to ≤ end → a.to ≤ end
+    after a b end f s r = elim f [
+      | inl e ↦ let k = ap (λ (x : Span). x.to) e in omega (arith, k, r)
+      | inr l ↦ omega (arith, l, s, r)
+    ]
 
-begins_later : (at end : ℕ) (tokens : List PpToken) (i : ℕ) → InOrder at end tokens → i < length tokens → at ≤ (span_at tokens i).from
-begins_later at end [] i h l = absurd (omega arith)
-begins_later at end (t ∷ ts) zero h l = h.0
-begins_later at end (t ∷ ts) (suc i) h l = let r = begins_later t.at.to end ts i h.2 (omega arith) in omega (arith, h.0, h.1, r)
+-- what follows the second of two places that follow one another follows the first
+through : (a b c : Span) → Follows a b → b.from < b.to → Follows b c → Follows a c
+through a b c f s g = elim f [
+  | inl e ↦ elim g [
+    | inl d ↦ inl (d ∙ e)
+    | inr l ↦ let k = ap (λ (x : Span). x.to) e in inr (omega (arith, k, l))
+  ]
+  | inr m ↦ elim g [
+    | inl d ↦ let k = ap (λ (x : Span). x.from) d in inr (omega (arith, k, m))
+    | inr l ↦ inr (omega (arith, m, s, l))
+  ]
+]
 
-pub some_there : (at end : ℕ) (tokens : List PpToken) (i : ℕ) → InOrder at end tokens → i < length tokens → (span_at tokens i).from < (span_at tokens i).to
-some_there at end [] i h l = absurd (omega arith)
-some_there at end (t ∷ ts) zero h l = h.1
-some_there at end (t ∷ ts) (suc i) h l = some_there t.at.to end ts i h.2 (omega arith)
+follows_first : (before : Span) (end : ℕ) (tokens : List PpToken) (i : ℕ) → InOrder before end tokens → i < length tokens → Follows before (span_at tokens i)
+follows_first before end [] i h l = absurd (omega arith)
+follows_first before end (t ∷ ts) zero h l = h.0
+follows_first before end (t ∷ ts) (suc i) h l = through before t.at (span_at ts i) h.0 h.1 (follows_first t.at end ts i h.2 (omega arith))
 
-pub ends_within : (at end : ℕ) (tokens : List PpToken) (i : ℕ) → InOrder at end tokens → i < length tokens → (span_at tokens i).to ≤ end
-ends_within at end [] i h l = absurd (omega arith)
-ends_within at end (t ∷ ts) zero h l = later t.at.to end ts h.2
-ends_within at end (t ∷ ts) (suc i) h l = ends_within t.at.to end ts i h.2 (omega arith)
+some_there : (before : Span) (end : ℕ) (tokens : List PpToken) (i : ℕ) → InOrder before end tokens → i < length tokens → (span_at tokens i).from < (span_at tokens i).to
+some_there before end [] i h l = absurd (omega arith)
+some_there before end (t ∷ ts) zero h l = h.1
+some_there before end (t ∷ ts) (suc i) h l = some_there t.at end ts i h.2 (omega arith)
 
-pub one_after : (at end : ℕ) (tokens : List PpToken) (i j : ℕ) → InOrder at end tokens → i < j → j < length tokens → (span_at tokens i).to ≤ (span_at tokens j).from
-one_after at end [] i j h l m = absurd (omega arith)
-one_after at end (t ∷ ts) i zero h l m = absurd (omega arith)
-one_after at end (t ∷ ts) zero (suc j) h l m = begins_later t.at.to end ts j h.2 (omega arith)
-one_after at end (t ∷ ts) (suc i) (suc j) h l m = one_after t.at.to end ts i j h.2 (omega arith) (omega arith)
+ends_within : (before : Span) (end : ℕ) (tokens : List PpToken) (i : ℕ) → InOrder before end tokens → i < length tokens → (span_at tokens i).to ≤ end
+ends_within before end [] i h l = absurd (omega arith)
+ends_within before end (t ∷ ts) zero h l = later t.at end ts h.2
+ends_within before end (t ∷ ts) (suc i) h l = ends_within t.at end ts i h.2 (omega arith)
 
--- three tokens from a number on, and where a text ends
-pub record Three (tokens : List PpToken) (end at : ℕ) : Type 0 where
-  pub first : (span_at tokens at).from < (span_at tokens at).to
-  pub second : (span_at tokens at).to ≤ (span_at tokens (at + 1)).from
-  pub name : (span_at tokens (at + 1)).from < (span_at tokens (at + 1)).to
-  pub third : (span_at tokens (at + 1)).to ≤ (span_at tokens (at + 2)).from
-  pub last : (span_at tokens (at + 2)).from < (span_at tokens (at + 2)).to
-  pub within : (span_at tokens (at + 2)).to ≤ end
+one_after : (before : Span) (end : ℕ) (tokens : List PpToken) (i j : ℕ) → InOrder before end tokens → i < j → j < length tokens → Follows (span_at tokens i) (span_at tokens j)
+one_after before end [] i j h l m = absurd (omega arith)
+one_after before end (t ∷ ts) i zero h l m = absurd (omega arith)
+one_after before end (t ∷ ts) zero (suc j) h l m = follows_first t.at end ts j h.2 (omega arith)
+one_after before end (t ∷ ts) (suc i) (suc j) h l m = one_after t.at end ts i j h.2 (omega arith) (omega arith)
 
-pub three : (tokens : List PpToken) (end at : ℕ) → InOrder 0 end tokens → at + 2 < length tokens → Three tokens end at
-three tokens end at h l = record {
-  first = some_there 0 end tokens at h (omega arith);
-  second = one_after 0 end tokens at (at + 1) h (omega arith) (omega arith);
-  name = some_there 0 end tokens (at + 1) h (omega arith);
-  third = one_after 0 end tokens (at + 1) (at + 2) h (omega arith) (omega arith);
-  last = some_there 0 end tokens (at + 2) h (omega arith);
-  within = ends_within 0 end tokens (at + 2) h (omega arith);
-}
+by_follows : (walk : Walk) (a b : Span) → IsAt walk a → Follows a b → Ahead walk b
+by_follows walk a b h f = elim f [
+  | inl e ↦ inl (h.0 ∙ ap (λ (x : Span). x.from) (sym e), h.1 ∙ ap (λ (x : Span). x.to) (sym e))
+  | inr l ↦ inr (omega (arith, h.1, l))
+]
+
+-- a walk that stands at a token has the later ones ahead
+pub ahead_of : (tokens : List PpToken) (end i j : ℕ) (walk : Walk) → InOrder nowhere end tokens → i < j → j < length tokens → IsAt walk (span_at tokens i) → Ahead walk (span_at tokens j)
+ahead_of tokens end i j walk o l m h = by_follows walk (span_at tokens i) (span_at tokens j) h (one_after nowhere end tokens i j o l m)
+
+-- a token's place
+pub record Place (tokens : List PpToken) (end i : ℕ) : Type 0 where
+  pub some : (span_at tokens i).from < (span_at tokens i).to
+  pub within : (span_at tokens i).to ≤ end
+
+pub place : (tokens : List PpToken) (end i : ℕ) → InOrder nowhere end tokens → i < length tokens → Place tokens end i
+place tokens end i h l = record { some = some_there nowhere end tokens i h l; within = ends_within nowhere end tokens i h l }

@@ -1,4 +1,5 @@
 pub mod Symbols
+pub mod Walking
 pub mod AnswerOf
 pub mod Unknowns
 pub mod Seen

@@ -1,5 +1,5 @@
-use cl_base::Mem;
-use cl_pp::preprocess;
+use cl_base::{Mem, Path};
+use cl_pp::{PpDone, preprocess};
 use std::alloc::Global;
 use std::test::Fail;
 
@@ -51,10 +51,10 @@ fn active_lines_and_faults(rt: HostRuntime) -> Result<(), Fail> {
         ),
         (
             b"#include <a> b\n#include X Y\n#line\n#\n# 3\n",
-            "!7@13-14 !5@38-39 ",
+            "!7@13-14 !23@29-33 !5@38-39 ",
         ),
         (b"#foo\n a # b\n", "a@6 #@8 b@10 !5@1-4 "),
-        (b"#error '\n#pragma \"\n'", "'@19 !2@19-20 "),
+        (b"#error '\n#pragma \"\n'", "'@19 !22@1-6 !2@19-20 "),
         (b"/* a", "!1@0-2 "),
         (b"#if 0\n\"\n/* a\n#endif\n", "!1@8-10 !14@1-3 "),
         (
@@ -72,6 +72,82 @@ fn active_lines_and_faults(rt: HostRuntime) -> Result<(), Fail> {
     Ok(())
 }
 
+/// Macros in whole texts: their tokens, each with its place, and then their faults.
+#[test]
+fn macros_of_a_text(rt: HostRuntime) -> Result<(), Fail> {
+    let rows: [Row<'_>; 16] = [
+        (b"#define M int m;\nM\n", "int@17 m@17 ;@17 "),
+        (
+            b"#define A 1\n#undef A\n#ifdef A\na\n#else\nb\n#endif\n",
+            "b@38 ",
+        ),
+        (b"#define A 2\n#if A == 2\na\n#endif\n", "a@23 "),
+        (b"#define A B\n#define B 1\n#if A\na\n#endif\n", "a@30 "),
+        (b"#define A 1\n#define A 1\nA", "1@24 "),
+        (b"#define A 1\n#define A 2\nA", "2@24 !16@20-21 "),
+        (b"#if 0\n#define A 1\n#endif\nA", "A@25 "),
+        (
+            b"#define A(x x\n#define defined 1\n#undef __FILE__\n",
+            "!18@8-9 !18@22-29 !18@39-47 ",
+        ),
+        (
+            b"#define f(x) x\nf(\n#\n1)",
+            "f@15 (@16 1@20 )@21 !20@15-16 ",
+        ),
+        (b"#define f(x) <x>\nf(1\n)\n", "<@17 1@17 >@17 "),
+        (b"#define f(x) <x>\nf(1\n#endif\n)\n", "f@17 (@18 1@19 )@28 !12@22-27 !20@17-18 "),
+        (
+            b"#line 5\n#line 0\n#define N 7 \"x\"\n#line N\n#line N N\n#line 2147483648\n#line 1 L\"a\"\n",
+            "!23@14-15 !23@48-49 !23@56-66 !23@75-79 ",
+        ),
+        (b"#error a\n#if 0\n#error b\n#endif\n", "!22@1-6 "),
+        (
+            b"#define A\n#if defined A && !defined(B) && defined ( A )\na\n#endif",
+            "a@56 ",
+        ),
+        (b"#define A\n#ifndef A\na\n#else\nb\n#endif", "b@28 "),
+        (
+            b"#define f(x) x\n#if f(1,2)\n#endif",
+            "!19@19-20 !15@20-21 ",
+        ),
+    ];
+    for (text, wanted) in rows {
+        let found = shown(rt.alloc(), text)?;
+        let text = String::from_utf8_lossy(rt.alloc(), text)?;
+        assert!(rt; found.as_str() == wanted, "{found} for {text}");
+    }
+    Ok(())
+}
+
+/// What is told beside tokens and faults: definitions and their ends, the uses of macros, each with its event and the
+/// number of tokens before it, and the names that were looked up.
+#[test]
+fn events_uses_and_names(rt: HostRuntime) -> Result<(), Fail> {
+    let rows: [Row<'_>; 6] = [
+        (
+            b"#define M N\n#define N 1\nM x M\n",
+            "+M +N @24:0<0 @28:0<2 M,N,x,",
+        ),
+        (b"#define A 1\n#define A 1\nA\n", "+A @24:0<0 A,"),
+        (
+            b"#define A 1\n#undef A\n#define A 2\nA\n",
+            "+A -A +A @33:2<0 A,",
+        ),
+        (
+            b"x\n#define A 1\n#if A || defined B\n#endif\n",
+            "+A @18:0<1 x,A,B,",
+        ),
+        (b"#if 0\n#define A 1\nA\n#endif\n", ""),
+        (b"#ifdef A\n#endif\n#undef B\n", "-B A,B,"),
+    ];
+    for (text, wanted) in rows {
+        let found = noted(rt.alloc(), text)?;
+        let text = String::from_utf8_lossy(rt.alloc(), text)?;
+        assert!(rt; found.as_str() == wanted, "{found} for {text}");
+    }
+    Ok(())
+}
+
 /// Nesting is as deep as the text is long, and no stack is.
 #[test]
 fn deep_sections_and_parentheses(rt: HostRuntime) -> Result<(), Fail> {
@@ -81,7 +157,7 @@ fn deep_sections_and_parentheses(rt: HostRuntime) -> Result<(), Fail> {
         text.extend_from_slice(b"#if 1\n")?;
     }
     text.extend_from_slice(b"a\n")?;
-    let done = preprocess(alloc, text.as_slice())?;
+    let done = done_of(alloc, text.as_slice())?;
     assert!(rt; done.tokens.len() == 1, "one token");
     assert!(rt; done.faults.len() == 100_000, "no section is ended");
     let mut text = Vec::new(alloc);
@@ -94,14 +170,20 @@ fn deep_sections_and_parentheses(rt: HostRuntime) -> Result<(), Fail> {
         text.push(b')')?;
     }
     text.extend_from_slice(b"\na\n#endif\n")?;
-    let done = preprocess(alloc, text.as_slice())?;
+    let done = done_of(alloc, text.as_slice())?;
     assert!(rt; done.tokens.len() == 1, "the condition holds");
     assert!(rt; done.faults.is_empty(), "without a fault");
     Ok(())
 }
 
+fn done_of(alloc: Global, text: &[u8]) -> Mem<PpDone> {
+    let path = Path::new(alloc, "/a.c")?;
+    let done = preprocess(alloc, &path, text)?;
+    Ok(done)
+}
+
 fn shown(alloc: Global, text: &[u8]) -> Mem<String> {
-    let done = preprocess(alloc, text)?;
+    let done = done_of(alloc, text)?;
     let mut out = String::new(alloc);
     for token in done.tokens.as_slice() {
         let spelling = String::from_utf8_lossy(alloc, token.text.bytes())?;
@@ -110,6 +192,27 @@ fn shown(alloc: Global, text: &[u8]) -> Mem<String> {
     }
     for fault in done.faults.as_slice() {
         let line = format!(in alloc; "!{}@{}-{} ", fault.number, fault.at.from, fault.at.to)?;
+        out.push_str(line.as_str())?;
+    }
+    Ok(out)
+}
+
+fn noted(alloc: Global, text: &[u8]) -> Mem<String> {
+    let done = done_of(alloc, text)?;
+    let mut out = String::new(alloc);
+    for event in done.events.as_slice() {
+        let sign = if event.set.is_some() { "+" } else { "-" };
+        let name = String::from_utf8_lossy(alloc, event.name.bytes())?;
+        let line = format!(in alloc; "{}{} ", sign, name)?;
+        out.push_str(line.as_str())?;
+    }
+    for one in done.uses.as_slice() {
+        let line = format!(in alloc; "@{}:{}<{} ", one.at.from, one.no.0, one.before)?;
+        out.push_str(line.as_str())?;
+    }
+    for name in done.looked.as_slice() {
+        let name = String::from_utf8_lossy(alloc, name.bytes())?;
+        let line = format!(in alloc; "{},", name)?;
         out.push_str(line.as_str())?;
     }
     Ok(out)

@@ -1,11 +1,5 @@
 -- How the code follows the sections that are open: their answers, the innermost first.
-use Rattle.std.specs.Prelude.{◌≡◌, ℕ, Bool, true, false, not, ◌&&◌, List, [], ◌∷◌, ◌++◌, Option}
-use Rattle.cl_base.specs.declared.token.Fault.{Fault}
-use Rattle.cl_base.specs.declared.token.Token.{Token}
-use Rattle.cl_base.specs.declared.token.PpDone.{PpDone}
-use Rattle.cl_cond.specs.declared.eval.IfValue.{IfValue}
-use Rattle.cl_cond.specs.declared.mark.Mark.{Mark}
-use Rattle.cl_pp.specs.Preprocessing.{AreValues, faults_from, tokens_from}
+use Rattle.std.specs.Prelude.{Bool, true, false, not, ◌&&◌, List, [], ◌∷◌}
 use Rattle.cl_cond.specs.declared.mark.Part.{Part}
 use Rattle.cl_cond.specs.declared.mark.Part.TheVariants.{Line, Branch, End}
 use Rattle.cl_cond.specs.Sections.{opens}
@@ -41,10 +35,3 @@ abbrev pub stacked : Part → Bool → List Section → List Section
 stacked Line held stack = stack
 stacked End held stack = below stack
 stacked (Branch c) held stack = under (opens c) held stack
-
--- what the lines add to what is there
-pub record Adds (tokens : List Token) (begins : ℕ → Option Fault) (marks : List Mark) (old new : PpDone) : Type 0 where
-  pub values : List (Option IfValue)
-  pub evaluated : AreValues tokens [] marks values
-  pub tokens_are : new.tokens ≡ old.tokens ++ tokens_from tokens [] marks values
-  pub faults_are : new.faults ≡ old.faults ++ faults_from tokens begins [] marks values

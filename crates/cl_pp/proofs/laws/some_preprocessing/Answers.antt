@@ -1,5 +1,5 @@
-use Rattle.cl_pp.proofs.Existing.{some_preprocessing}
+use Rattle.cl_pp.proofs.Existing.{some_preprocessed}
 use Rattle.cl_pp.proofs.laws.some_preprocessing.Goals as goal
 
 pub returns : goal.returns
-returns c = some_preprocessing
+returns c = some_preprocessed

@@ -1,13 +1,13 @@
 use Rattle.std.proofs.Common.{subst, sym, ◌∙◌}
 use Rattle.cl_base.specs.declared.token.PpToken.{PpToken}
 use Rattle.std.proofs.Common.{List, length}
-use Rattle.cl_pp.specs.Places.{InOrder}
+use Rattle.cl_pp.specs.Places.{InOrder, nowhere}
 use Rattle.cl_parse.specs.Items.{ItemsOf}
 use Rattle.cl_query.proofs.Found.{found}
 use Rattle.cl_query.proofs.answers.answer_of.Goals as goal
 
 pub symbols-requires-clause-order : goal.symbols-requires-clause-order
-symbols-requires-clause-order c = subst (λ (ts : List PpToken). InOrder 0 (length c.bytes-text.result.now) ts) (sym c.as_slice-2.ensures.value) c.in_ok-done.ensures.order
+symbols-requires-clause-order c = subst (λ (ts : List PpToken). InOrder nowhere (length c.bytes-text.result.now) ts) (sym c.as_slice-2.ensures.value) c.in_ok-done.ensures.order
 
 pub symbols-requires-clause-items : goal.symbols-requires-clause-items
 symbols-requires-clause-items c =

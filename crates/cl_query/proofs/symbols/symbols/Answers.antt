@@ -6,23 +6,23 @@ use Rattle.cl_query.proofs.symbols.symbols.Goals.{in-Proper+in_ok-symbol+in_ok-p
 
 pub loop-item-init : goal.loop-item-init
 loop-item-init c = record {
-  stands = c.start-cursor.ensures.position c.args.text.now ∙ ap (position_at c.args.text.now) (sym c.start-cursor.ensures.offset);
-  tiled = tiled_first c.args.tokens.now c.args.items.now c.start-cursor.result.offset c.requires.items c.start-cursor.ensures.offset;
+  stands = (c.start.ensures.position c.args.text.now ∙ ap (position_at c.args.text.now) (sym c.start.ensures.offset), c.start-2.ensures.position c.args.text.now ∙ ap (position_at c.args.text.now) (sym c.start-2.ensures.offset));
+  tiled = tiled_first c.args.tokens.now c.args.items.now _ c.requires.items c.start-2.ensures.offset;
   listed = rw c.new-symbols.ensures refl;
 }
 
 pub loop-item-preserved : goal.loop-item-preserved
 loop-item-preserved c = elim c.match-item.branch [
   | in-Proper+in_ok-symbol+in_ok-push w ↦ record {
-    stands = rw w.cursor-is w.in_ok-symbol.ensures.position;
-    tiled = rw w.cursor-is
-        (tiled_proper _ _ _ _ _ _ _ c.requires.order (next_proper _ _ _ _ _ _ _ c.loop-item.invariant.tiled c.loop-item-test.true w.in-Proper.is) w.in_ok-symbol.ensures.offset);
+    stands = rw w.walk-is w.in_ok-symbol.ensures.stands;
+    tiled = rw w.walk-is
+        (tiled_proper _ _ _ _ _ _ _ c.requires.order (next_proper _ _ _ _ _ _ _ c.loop-item.invariant.tiled c.loop-item-test.true w.in-Proper.is) w.in_ok-symbol.ensures.at);
     listed = rw (w.symbols-is, w.in_ok-push.ensures.ok)
         (listed_proper _ _ _ _ _ _ _ _ _ c.loop-item.invariant.listed c.loop-item-test.true w.in-Proper.is w.in_ok-symbol.ensures.symbol);
   }
   | in_default w ↦ record {
-    stands = rw w.cursor-is c.loop-item.invariant.stands;
-    tiled = rw w.cursor-is (tiled_bad _ _ _ _ _ _ _ c.loop-item.invariant.tiled c.loop-item-test.true w.in_default.is);
+    stands = rw w.walk-is c.loop-item.invariant.stands;
+    tiled = rw w.walk-is (tiled_bad _ _ _ _ _ _ _ c.loop-item.invariant.tiled c.loop-item-test.true w.in_default.is);
     listed = rw w.symbols-is (listed_bad _ _ _ _ _ _ _ _ c.loop-item.invariant.listed c.loop-item-test.true w.in_default.is);
   }
 ]
@@ -30,5 +30,5 @@ loop-item-preserved c = elim c.match-item.branch [
 pub symbol-requires-clause-tokens : goal.symbol-requires-clause-tokens
 symbol-requires-clause-tokens c = (next_proper _ _ _ _ _ _ _ c.loop-item.invariant.tiled c.loop-item-test.true c.in-Proper.is).room
 
-pub symbol-requires-clause-before : goal.symbol-requires-clause-before
-symbol-requires-clause-before c = (next_proper _ _ _ _ _ _ _ c.loop-item.invariant.tiled c.loop-item-test.true c.in-Proper.is).before
+pub symbol-requires-clause-ahead : goal.symbol-requires-clause-ahead
+symbol-requires-clause-ahead c = (next_proper _ _ _ _ _ _ _ c.loop-item.invariant.tiled c.loop-item-test.true c.in-Proper.is).ahead

@@ -1,6 +1,0 @@
-use Rattle.std.proofs.Common.{◌≡◌, ◌++◌, take}
-use Rattle.cl_pp.specs.Lines.{spread_line}
-use Rattle.cl_pp.proofs.look.spread_line.Given as goal
-
-abbrev pub invariant-loop-token : goal.invariant-loop-token
-invariant-loop-token l = l.tokens ≡ l.fn.tokens ++ spread_line (take l.token-index l.line)

@@ -1,0 +1,149 @@
+//! Definitions (N1570 6.10.3).
+
+ghost use Rattle.std.specs.Prelude.{◌≡◌, ◌++◌, ◌∷◌, [], ℕ, List as TheList, Option, Some, false, OnOk};
+ghost use Rattle.cl_base.specs.declared.macros.Macro.{Macro as TheMacro};
+ghost use Rattle.cl_pp.specs.Acts.{defining};
+ghost use Rattle.cl_pp.specs.Lines.{invalid, place_of, redefined};
+ghost use Rattle.cl_pp.specs.Preprocessing.{World, rules_in};
+ghost use Rattle.cl_pp.specs.Taking.{IsDefinition, IsGiven, Takes};
+ghost use Rattle.cl_pp.specs.code.Defining.{defined_after, event_of};
+ghost use Rattle.cl_pp.specs.code.Keeping.{Keeps, Sees, lookup, number_of};
+
+use crate::line::add;
+use crate::looked::look;
+use crate::made::Made;
+use crate::token::span_at;
+use cl_base::{Diag, Duplicate, EmptyBase, List, Macro, MacroEvent, Mem, Name, Span, Token};
+use cl_define::read_define;
+use cl_macro::{Defined, MacroTable};
+use std::alloc::Global;
+
+/// Goes over a `#define`.
+pub(crate) fn defining(
+    alloc: Global,
+    table: &mut MacroTable,
+    made: &mut Made,
+    name: &Token,
+    rest: &[Token],
+    _line: &[Token],
+) -> Mem<()>
+    requires { Sees made.now }
+    ensures done { (w : World) → OnOk result (Takes (rules_in w (lookup table.old)) (number_of table.old) _line.now (defining name.now rest.now made.old.done) false made.new.done) }
+    ensures keeps { (start : TheList ℕ → Option TheMacro) → Keeps start table.old made.old.done → OnOk result (Keeps start table.new made.new.done) }
+    ensures sees { OnOk result (Sees made.new) }
+{
+    let Some((token, _)) = rest.split_first() else {
+        return add(&mut made.done.faults, 6, name);
+    };
+    if !token.kind.is_ident() {
+        return add(&mut made.done.faults, 6, name);
+    }
+    define(alloc, table, made, rest)?;
+    Ok(())
+}
+
+/// Goes over the tokens behind `define`.
+fn define(
+    alloc: Global,
+    table: &mut MacroTable,
+    made: &mut Made,
+    tokens: &[Token],
+) -> Mem<()>
+    requires { Sees made.now }
+    ensures done { (w : World) → OnOk result (IsDefinition (rules_in w (lookup table.old)) tokens.now made.old.done made.new.done) }
+    ensures keeps { (start : TheList ℕ → Option TheMacro) → Keeps start table.old made.old.done → OnOk result (Keeps start table.new made.new.done) }
+    ensures sees { OnOk result (Sees made.new) }
+{
+    let found = read_define(alloc, tokens, place_of(tokens))?;
+    match found {
+        Some(mac) => give(alloc, table, made, tokens, mac),
+        None => invalid(&mut made.done.faults, tokens),
+    }
+}
+
+/// Where the first of these tokens is written.
+fn place_of(tokens: &[Token]) -> Span
+    ensures { result ≡ place_of tokens.now }
+{
+    match tokens.split_first() {
+        Some((token, _)) => span_at(token.from, token.to),
+        None => span_at(0, 0),
+    }
+}
+
+/// Adds fault 18, at a definition's name.
+fn invalid(faults: &mut List<Diag>, tokens: &[Token]) -> Mem<()>
+    ensures { OnOk result (faults.new ≡ faults.old ++ invalid tokens.now) }
+{
+    faults.push(Diag {
+        number: 18,
+        at: place_of(tokens),
+        name: None,
+    })
+}
+
+/// Adds fault 16, at a definition's name.
+fn redefined(alloc: Global, faults: &mut List<Diag>, name: &Name, tokens: &[Token]) -> Mem<()>
+    ensures { OnOk result (faults.new ≡ faults.old ++ redefined name.now tokens.now) }
+{
+    let name = name.duplicate(alloc)?;
+    faults.push(Diag {
+        number: 16,
+        at: place_of(tokens),
+        name: Some(name),
+    })
+}
+
+/// Gives the name its macro from here on.
+fn give(
+    alloc: Global,
+    table: &mut MacroTable,
+    made: &mut Made,
+    tokens: &[Token],
+    mac: Macro,
+) -> Mem<()>
+    requires { Sees made.now }
+    ensures done { OnOk result (IsGiven (lookup table.old) tokens.now mac made.old.done made.new.done) }
+    ensures keeps { (start : TheList ℕ → Option TheMacro) → Keeps start table.old made.old.done → OnOk result (Keeps start table.new made.new.done) }
+    ensures sees { OnOk result (Sees made.new) }
+{
+    let name = mac.name.duplicate(alloc)?;
+    look(alloc, made, &name)?;
+    let copy = mac.duplicate(alloc)?;
+    let answer = table.define(alloc, &EmptyBase, mac)?;
+    tell_defined(alloc, made, answer, name, copy, tokens)?;
+    Ok(())
+}
+
+/// Adds the event of a definition whose name has been looked at, and its fault.
+fn tell_defined(
+    alloc: Global,
+    made: &mut Made,
+    answer: Defined,
+    name: Name,
+    mac: Macro,
+    tokens: &[Token],
+) -> Mem<()>
+    ensures done { OnOk result (made.new.done ≡ defined_after answer name mac tokens.now made.old.done) }
+    ensures seen { OnOk result (made.new.seen ≡ made.old.seen) }
+    ensures looked { OnOk result (made.new.done.looked ≡ made.old.done.looked) }
+{
+    match answer {
+        Defined::New => add_event(&mut made.done.events, name, mac),
+        Defined::Same => Ok(()),
+        Defined::Replaced { .. } => {
+            redefined(alloc, &mut made.done.faults, &name, tokens)?;
+            add_event(&mut made.done.events, name, mac)
+        }
+    }
+}
+
+/// Adds the event that gives the name its macro.
+fn add_event(events: &mut List<MacroEvent>, name: Name, mac: Macro) -> Mem<()>
+    ensures { OnOk result (events.new ≡ events.old ++ event_of name mac ∷ []) }
+{
+    events.push(MacroEvent {
+        name,
+        set: Some(mac),
+    })
+}

@@ -1,0 +1,217 @@
+//! The directives that begin no branch (N1570 6.10).
+
+ghost use Rattle.std.specs.Prelude.{◌≡◌, ◌≤◌, ◌++◌, ℕ, List, Option, None, false, if◌then◌else◌, is_some, length, map, IfOk, OnOk};
+ghost use Rattle.cl_base.specs.declared.macros.Macro.{Macro as TheMacro};
+ghost use Rattle.cl_macro.specs.Levels.{Within as AreWithin};
+ghost use Rattle.cl_macro.specs.Words.{fresh};
+ghost use Rattle.cl_pp.specs.Acts.{Checks, Gives, checking, directive, named, undefined, undefining};
+ghost use Rattle.cl_pp.specs.LineNumbers.{misfit};
+ghost use Rattle.cl_pp.specs.Lines.{bad_line, spread_line};
+ghost use Rattle.cl_pp.specs.Places.{Within};
+ghost use Rattle.cl_pp.specs.Preprocessing.{World, rules_in};
+ghost use Rattle.cl_pp.specs.Standing.{with_event};
+ghost use Rattle.cl_pp.specs.Taking.{IsChecked, Takes};
+ghost use Rattle.cl_pp.specs.code.Keeping.{Keeps, Sees, Suits, lookup, number_of};
+
+use crate::define::defining;
+use crate::line::{add, extra, included};
+use crate::line_number::misfit;
+use crate::looked::look;
+use crate::made::{File, Made, Reach};
+use crate::replacing::{replaced, spread_line};
+use crate::token::fault_in;
+use cl_base::{Diag, Duplicate, List, MacroEvent, Mem, Name, PpToken, Token};
+use cl_define::is_reserved;
+use cl_macro::MacroTable;
+use std::alloc::Global;
+
+/// Goes over a directive.
+pub(crate) fn directive(
+    alloc: Global,
+    file: &File,
+    table: &mut MacroTable,
+    made: &mut Made,
+    line: &[Token],
+) -> Mem<()>
+    requires { Sees made.now }
+    ensures done { (w : World) → Suits file.now w → Within (length w.text) line.now → OnOk result (Takes (rules_in w (lookup table.old)) (number_of table.old) line.now (directive line.now made.old.done) false made.new.done) }
+    ensures keeps { (start : List ℕ → Option TheMacro) → Keeps start table.old made.old.done → OnOk result (Keeps start table.new made.new.done) }
+    ensures sees { OnOk result (Sees made.new) }
+{
+    let Some((_, rest)) = line.split_first() else {
+        return Ok(());
+    };
+    match rest.split_first() {
+        Some((name, rest)) => named(alloc, file, table, made, name, rest, line),
+        None => Ok(()),
+    }
+}
+
+/// Goes over a directive of this name.
+fn named(
+    alloc: Global,
+    file: &File,
+    table: &mut MacroTable,
+    made: &mut Made,
+    name: &Token,
+    rest: &[Token],
+    line: &[Token],
+) -> Mem<()>
+    requires { Sees made.now }
+    ensures done { (w : World) → Suits file.now w → Within (length w.text) rest.now → OnOk result (Takes (rules_in w (lookup table.old)) (number_of table.old) line.now (named name.now rest.now made.old.done) false made.new.done) }
+    ensures keeps { (start : List ℕ → Option TheMacro) → Keeps start table.old made.old.done → OnOk result (Keeps start table.new made.new.done) }
+    ensures sees { OnOk result (Sees made.new) }
+{
+    if name.is_word(b"define".as_slice()) {
+        defining(alloc, table, made, name, rest, line)
+    } else if name.is_word(b"undef".as_slice()) {
+        undefining(alloc, table, made, name, rest, line)
+    } else if name.is_word(b"include".as_slice()) {
+        included(&mut made.done.faults, rest)
+    } else if name.is_word(b"line".as_slice()) {
+        checking(alloc, file, table, made, rest, line)
+    } else if name.is_word(b"error".as_slice()) {
+        add(&mut made.done.faults, 22, name)
+    } else if name.is_word(b"pragma".as_slice()) {
+        Ok(())
+    } else {
+        add(&mut made.done.faults, 5, name)
+    }
+}
+
+/// Goes over an `#undef`.
+fn undefining(
+    alloc: Global,
+    table: &mut MacroTable,
+    made: &mut Made,
+    name: &Token,
+    rest: &[Token],
+) -> Mem<()>
+    requires { Sees made.now }
+    ensures done { OnOk result (made.new.done ≡ undefining name.now rest.now made.old.done) }
+    ensures keeps { (start : List ℕ → Option TheMacro) → Keeps start table.old made.old.done → OnOk result (Keeps start table.new made.new.done) }
+    ensures sees { OnOk result (Sees made.new) }
+{
+    let Some((token, more)) = rest.split_first() else {
+        return add(&mut made.done.faults, 6, name);
+    };
+    if !token.kind.is_ident() {
+        return add(&mut made.done.faults, 6, name);
+    }
+    undefined(alloc, table, made, token)?;
+    extra(&mut made.done.faults, more)?;
+    Ok(())
+}
+
+/// Takes the token's macro away, unless its name may not be undefined.
+fn undefined(alloc: Global, table: &mut MacroTable, made: &mut Made, token: &Token) -> Mem<()>
+    requires { Sees made.now }
+    ensures done { OnOk result (made.new.done ≡ undefined token.now made.old.done) }
+    ensures keeps { (start : List ℕ → Option TheMacro) → Keeps start table.old made.old.done → OnOk result (Keeps start table.new made.new.done) }
+    ensures sees { OnOk result (Sees made.new) }
+{
+    if is_reserved(token.text.bytes()) {
+        add(&mut made.done.faults, 18, token)
+    } else {
+        undefine(alloc, table, made, &token.text)
+    }
+}
+
+/// The name has no macro from here on.
+fn undefine(alloc: Global, table: &mut MacroTable, made: &mut Made, name: &Name) -> Mem<()>
+    requires { Sees made.now }
+    ensures done { OnOk result (made.new.done ≡ with_event name.now None made.old.done) }
+    ensures keeps { (start : List ℕ → Option TheMacro) → Keeps start table.old made.old.done → OnOk result (Keeps start table.new made.new.done) }
+    ensures sees { OnOk result (Sees made.new) }
+{
+    look(alloc, made, name)?;
+    table.undef(alloc, name)?;
+    let name = name.duplicate(alloc)?;
+    made.done.events.push(MacroEvent { name, set: None })?;
+    Ok(())
+}
+
+/// Goes over a `#line`.
+fn checking(
+    alloc: Global,
+    file: &File,
+    table: &MacroTable,
+    made: &mut Made,
+    rest: &[Token],
+    line: &[Token],
+) -> Mem<()>
+    requires { Sees made.now }
+    ensures done { (w : World) → Suits file.now w → Within (length w.text) rest.now → OnOk result (Takes (rules_in w (lookup table.now)) (number_of table.now) line.now (checking rest.now made.old.done) false made.new.done) }
+    ensures events { OnOk result (made.new.done.events ≡ made.old.done.events) }
+    ensures sees { OnOk result (Sees made.new) }
+{
+    let tokens = spread_line(alloc, rest)?;
+    let wrong = is_wrong(tokens.as_slice());
+    checked_if(alloc, file, table, made, wrong, tokens.as_slice(), line)?;
+    Ok(())
+}
+
+/// Whether the operand of a `#line` isn't of its form.
+fn is_wrong(tokens: &[PpToken]) -> bool
+    ensures { result ≡ is_some (misfit tokens.now) }
+{
+    misfit(tokens).is_some()
+}
+
+/// Goes over the operand of a `#line`, if it is wrong as it is written.
+fn checked_if(
+    alloc: Global,
+    file: &File,
+    table: &MacroTable,
+    made: &mut Made,
+    wrong: bool,
+    tokens: &[PpToken],
+    line: &[Token],
+) -> Mem<()>
+    requires { Sees made.now }
+    ensures done { (w : World) → Suits file.now w → AreWithin w.text (map fresh tokens.now) → OnOk result (Takes (rules_in w (lookup table.now)) (number_of table.now) line.now (if wrong then Checks tokens.now made.old.done else Gives false made.old.done) false made.new.done) }
+    ensures events { OnOk result (made.new.done.events ≡ made.old.done.events) }
+    ensures sees { OnOk result (Sees made.new) }
+{
+    if wrong {
+        checked(alloc, file, table, made, tokens, line)
+    } else {
+        Ok(())
+    }
+}
+
+/// Goes over the operand of a `#line` that isn't of its form as it is written.
+fn checked(
+    alloc: Global,
+    file: &File,
+    table: &MacroTable,
+    made: &mut Made,
+    tokens: &[PpToken],
+    line: &[Token],
+) -> Mem<()>
+    requires { Sees made.now }
+    ensures done { (w : World) → Suits file.now w → AreWithin w.text (map fresh tokens.now) → OnOk result (IsChecked (rules_in w (lookup table.now)) (number_of table.now) line.now tokens.now made.old.done made.new.done) }
+    ensures events { OnOk result (made.new.done.events ≡ made.old.done.events) }
+    ensures sees { OnOk result (Sees made.new) }
+{
+    let reach = Reach::Directive(made.done.tokens.len() as u32);
+    let tokens = replaced(alloc, file, table, made, reach, tokens)?;
+    let place = misfit(tokens.as_slice());
+    bad_line(&mut made.done.faults, place, tokens.as_slice(), line)?;
+    Ok(())
+}
+
+/// Adds fault 23, if the operand of a `#line` is at fault.
+fn bad_line(
+    faults: &mut List<Diag>,
+    place: Option<usize>,
+    made: &[PpToken],
+    line: &[Token],
+) -> Mem<()>
+    ensures { OnOk result (faults.new ≡ faults.old ++ bad_line place made.now line.now) }
+{
+    match place {
+        Some(place) => fault_in(faults, 23, made, place, line),
+        None => Ok(()),
+    }
+}
