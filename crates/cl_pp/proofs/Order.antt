@@ -118,7 +118,7 @@ module _ (rules : Rules) where
 
 module _ (rules_at : Span → Rules) where
   pub run_order : {before : ℕ} {run words : List Word} {ts : List Told} → Expands rules_at before run words ts → (p last : ℕ) → Lie p last run → Goes p last words
-  run_order (end before) p last h b l = let r : p ≤ last = h in omega (arith, l, r)
+  run_order (end before) p last h = λ b l. let r : p ≤ last = h in omega (arith, l, r)
   run_order (whole before w rest out left more ns ts d few g) p last h = first_on (rules_at w.token.at) w p last rest out left more ns d h (λ q lie. run_order g q last lie)
   run_order (large before w rest behind m more ts t many g) p last h =
       let word : behind ≡ take (length behind) rest = turn_takes (rules_at w.token.at).macros w rest (Invokes m behind) t in

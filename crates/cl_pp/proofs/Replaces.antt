@@ -1,12 +1,14 @@
 -- What replacement adds.
-use Rattle.std.specs.Prelude.{is_some, if◌then◌else◌}
+use Rattle.std.specs.Prelude.{if◌then◌else◌, codes, OnOk, Result}
 use Rattle.std.proofs.Common.{◌≡◌, ℕ, ◌+◌, Bool, true, false, List, [], ◌∷◌, ◌++◌, Option, Some, refl, sym, ap, subst, ◌∙◌, length, map}
 use Rattle.cl_base.specs.declared.macros.Macro.{Macro}
 use Rattle.cl_base.specs.declared.macros.MacroNo.{MacroNo}
+use Rattle.cl_base.specs.declared.memory.Memory.{Memory}
 use Rattle.cl_base.specs.declared.token.PpToken.{PpToken}
 use Rattle.cl_base.specs.declared.token.Span.{Span}
 use Rattle.cl_base.specs.declared.token.Token.{Token}
 use Rattle.cl_base.specs.declared.token.Diag.{Diag}
+use Rattle.cl_base.specs.Tokens.{is_ident, is_word}
 use Rattle.cl_cond.specs.declared.eval.IfValue.{IfValue}
 use Rattle.cl_cond.specs.Conditions.{EvaluatesTo}
 use Rattle.cl_cond.specs.Words.{words_from}
@@ -19,12 +21,12 @@ use Rattle.cl_macro.specs.Strings.{escaped, quoted}
 use Rattle.cl_pp.specs.declared.done.PpDone.{PpDone}
 use Rattle.cl_pp.specs.declared.made.Reach.{Reach}
 use Rattle.cl_pp.specs.declared.made.Reach.TheVariants as reach
-use Rattle.cl_pp.specs.Lines.{bad_if, bad_line, is_true, spread_line}
+use Rattle.cl_pp.specs.Lines.{bad_if, bad_line, fault_at, is_true}
 use Rattle.cl_pp.specs.Preprocessing.{World, rules_in}
-use Rattle.cl_pp.specs.Standing.{use_at, with_asked, with_looked, with_replaced, with_run}
-use Rattle.cl_pp.specs.Acts.{Checks, Gives, checking}
+use Rattle.cl_pp.specs.Standing.{use_at, with_asked, with_faults, with_looked, with_replaced, with_run}
+use Rattle.cl_pp.specs.Acts.{Act, Defines, Gives, defining, named}
 use Rattle.cl_pp.specs.LineNumbers.{misfit}
-use Rattle.cl_pp.specs.Taking.{IsChecked, IsCondition, IsRun, Takes}
+use Rattle.cl_pp.specs.Taking.{IsChecked, IsCondition, IsDefinition, IsRun, Takes}
 use Rattle.cl_pp.specs.code.Keeping.{Replaces, before_of}
 
 pub replaced_is : (before : ℕ → ℕ) (all : Expanded) (old look new : PpDone) (names : List (List ℕ)) (us : List MacroUse)
@@ -112,10 +114,19 @@ checked_is rules_at numbers line base run tokens seen blamed old mid new place r
       };
     }
 
--- an operand that is at fault as it is written
-pub checks_by : (rules_at : Span → Rules) (numbers : List ℕ → Option MacroNo) (line rest : List Token) (tokens run : List PpToken) (old new : PpDone) (n : ℕ)
-    → misfit tokens ≡ Some n → tokens ≡ spread_line rest → run ≡ spread_line rest → IsChecked rules_at numbers line run old new → Takes rules_at numbers line (checking rest old) false new
-checks_by rules_at numbers line rest tokens run old new n m e f h =
-    let b : is_some (misfit (spread_line rest)) ≡ true = ap (λ (ts : List PpToken). is_some (misfit ts)) (sym e) ∙ ap is_some m in
-    subst (λ (x : Bool). Takes rules_at numbers line (if x then Checks (spread_line rest) old else Gives false old) false new) (sym b)
-    (refl, subst (λ (ts : List PpToken). IsChecked rules_at numbers line ts old new) f h)
+-- a definition
+pub defines_by : (rules_at : Span → Rules) (numbers : List ℕ → Option MacroNo) (line : List Token) (name token : Token) (rest more : List Token) (old new : PpDone)
+    → rest ≡ token ∷ more → is_ident token.kind ≡ true → IsDefinition rules_at rest old new → Takes rules_at numbers line (defining name rest old) false new
+defines_by rules_at numbers line name token rest more old new e b h =
+    subst (λ (ts : List Token). Takes rules_at numbers line (defining name ts old) false new) (sym e)
+    (subst (λ (x : Bool). Takes rules_at numbers line (if x then Defines (token ∷ more) old else Gives false (with_faults (fault_at 6 name) old)) false new) (sym b)
+    (refl, subst (λ (ts : List Token). IsDefinition rules_at ts old new) e h))
+
+if_is : (b : Bool) (x y : Act) → b ≡ true → (if b then x else y) ≡ x
+if_is b x y e = ap (λ (c : Bool). if c then x else y) e
+
+pub named_define : (rules_at : Span → Rules) (numbers : List ℕ → Option MacroNo) (line : List Token) (name : Token) (rest : List Token) (old new : PpDone) (r : Result (Unit {0}) Memory)
+    → is_word name (codes "define") ≡ true → OnOk r (Takes rules_at numbers line (defining name rest old) false new) → OnOk r (Takes rules_at numbers line (named name rest old) false new)
+named_define rules_at numbers line name rest old new r e h =
+    let same : named name rest old ≡ defining name rest old = if_is (is_word name (codes "define")) (defining name rest old) _ e in
+    subst (λ (a : Act). OnOk r (Takes rules_at numbers line a false new)) (sym same) h

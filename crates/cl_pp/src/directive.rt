@@ -65,7 +65,7 @@ fn named(
     if name.is_word(b"define".as_slice()) {
         defining(alloc, table, made, name, rest, line)
     } else if name.is_word(b"undef".as_slice()) {
-        undefining(alloc, table, made, name, rest, line)
+        undefining(alloc, table, made, name, rest)
     } else if name.is_word(b"include".as_slice()) {
         included(&mut made.done.faults, rest)
     } else if name.is_word(b"line".as_slice()) {

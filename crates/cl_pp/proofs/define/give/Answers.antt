@@ -14,5 +14,6 @@ returns-clause-done c = record {
 }
 
 pub returns-clause-keeps : goal.returns-clause-keeps
+unfolding returns-clause-done
 returns-clause-keeps c = λ start k.
     kept_given start c.args.table.now c.define.new.self c.args.made.now.done _ c.in_ok-answer.answer c.args.mac c.args.tokens.now k (returns-clause-done c).is c.in_ok-answer.ensures.ok

@@ -28,7 +28,6 @@ done_of c =
     let teller = some_teller in
     let old : PpDone = record { tokens = c.new-2.result; events = c.new-3.result; uses = c.new-4.result; looked = c.new-5.result; faults = c.in_ok-faults.faults } in
     let w : World = world_of c.args.path.now c.args.text.now c.in_ok-lexed.lexed.faults teller.0 (λ name. None) in
-    let file : File = record { path = c.args.path; lines = record { now = c.in_ok-lines.lines }; told = record { now = c.in_ok-told.told } } in
     found (λ name. None) c.args.path.now c.args.text.now teller.0 c.in_ok-lexed.lexed c.in_ok-groups.groups c.as_slice.result.now c.as_slice-3.result.now c.as_slice-7.result.now c.as_slice-4.result.now _ c.as_slice-8.result.now old _
     teller.1 c.in_ok-lexed.ensures.lexes c.in_ok-groups.ensures
     c.as_slice.ensures.value c.as_slice-3.ensures.value c.as_slice-7.ensures.value c.as_slice-4.ensures.value c.in_ok-runs.ensures c.as_slice-8.ensures.value

@@ -1,0 +1,10 @@
+use Rattle.std.proofs.Common.{rules}
+use Rattle.cl_pp.specs.Preprocessing.{rules_in}
+use Rattle.cl_pp.specs.code.Keeping.{lookup, number_of}
+use Rattle.cl_pp.proofs.Replaces.{defines_by}
+use Rattle.cl_pp.proofs.define.defining.Goals as goal
+
+pub returns-clause-done : goal.returns-clause-done
+returns-clause-done c = λ w.
+    defines_by (rules_in w (lookup c.args.table.now)) (number_of c.args.table.now) c.args._line.now c.args.name.now c.in-Some.token.now c.args.rest.now _ c.args.made.now.done _
+    c.in-Some.ensures.cases.0 (search rules) (c.in_ok-define.ensures.done w)
