@@ -1,5 +1,5 @@
 -- One event more.
-use Rattle.std.proofs.Common.{◌≡◌, ℕ, suc, ◌+◌, List, [], ◌∷◌, ◌++◌, Option, Some, None, refl, sym, ap, ◌∙◌, length, arith, Bool}
+use Rattle.std.proofs.Common.{◌≡◌, ℕ, suc, ◌+◌, List, [], ◌∷◌, ◌++◌, Option, Some, None, refl, sym, ap, ◌∙◌, length, arith}
 use Rattle.std.specs.Prelude.{if◌then◌else◌}
 use Rattle.cl_base.specs.declared.macros.Macro.{Macro}
 use Rattle.cl_base.specs.declared.macros.MacroEvent.{MacroEvent}
@@ -12,10 +12,10 @@ use Rattle.cl_macro.specs.declared.table.Entry.{Entry}
 use Rattle.cl_macro.specs.Defining.{Defines}
 use Rattle.cl_macro.specs.Table.{IsAsBefore, IsPut, event_by, is_name, macro_by}
 use Rattle.cl_pp.specs.declared.done.PpDone.{PpDone}
-use Rattle.cl_pp.specs.Standing.{macro_at, meant, number_at, numbered, with_looked}
+use Rattle.cl_pp.specs.Standing.{meant, numbered, with_looked}
 use Rattle.cl_pp.specs.Taking.{defined_by}
 use Rattle.cl_pp.specs.code.Defining.{defined_after}
-use Rattle.cl_pp.specs.code.Keeping.{Keeps, lookup, number_of}
+use Rattle.cl_pp.specs.code.Keeping.{Keeps}
 
 meant_more : (events : List MacroEvent) (e : MacroEvent) (name : List ℕ) (before : Option Macro) → meant (events ++ e ∷ []) name before ≡ (if is_name e.name name then e.set else meant events name before)
 meant_more [] e name before = refl

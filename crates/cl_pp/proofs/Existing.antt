@@ -3,11 +3,8 @@ use Rattle.std.proofs.Common.{◌≡◌, ℕ, Bool, true, false, List, [], ◌�
 use Rattle.std.specs.Bool.{Decides}
 use Rattle.cl_base.specs.declared.macros.Macro.{Macro}
 use Rattle.cl_base.specs.declared.macros.MacroNo.{MacroNo}
-use Rattle.cl_base.specs.declared.token.Kind.{Kind}
-use Rattle.cl_base.specs.declared.token.Lexed.{Lexed}
 use Rattle.cl_base.specs.declared.token.Span.{Span}
 use Rattle.cl_base.specs.declared.token.Token.{Token}
-use Rattle.cl_lex.specs.Lexing.{Lexes}
 use Rattle.cl_lex.proofs.Exists.{some_lexed}
 use Rattle.cl_cond.specs.declared.mark.Mark.{Mark}
 use Rattle.cl_cond.proofs.Existing.{some_grouping}
@@ -19,7 +16,7 @@ use Rattle.cl_define.proofs.Told.{some_defined}
 use Rattle.cl_macro.specs.declared.define.Defined.{Defined}
 use Rattle.cl_macro.specs.declared.define.Defined.TheVariants as defined
 use Rattle.cl_macro.specs.Defining.{IsDefined, IsOver}
-use Rattle.cl_macro.specs.Rules.{Rules, TellsTokens}
+use Rattle.cl_macro.specs.Rules.{Rules}
 use Rattle.cl_macro.proofs.Plain.{some_expanded}
 use Rattle.cl_macro.proofs.Teller.{some_teller}
 use Rattle.cl_pp.specs.declared.done.PpDone.{PpDone}

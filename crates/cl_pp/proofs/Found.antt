@@ -1,5 +1,5 @@
 -- What was found is the preprocessed file.
-use Rattle.std.proofs.Common.{◌≡◌, ℕ, List, [], ◌++◌, Option, None, refl, sym, ap, subst, ◌∙◌, map, length}
+use Rattle.std.proofs.Common.{◌≡◌, ℕ, List, [], Option, None, refl, sym, ap, subst, ◌∙◌, length}
 use Rattle.cl_base.specs.declared.macros.Macro.{Macro}
 use Rattle.cl_base.specs.declared.token.Fault.{Fault}
 use Rattle.cl_base.specs.declared.token.Kind.{Kind}
@@ -16,7 +16,7 @@ use Rattle.cl_macro.specs.Rules.{TellsTokens}
 use Rattle.cl_pp.specs.declared.done.PpDone.{PpDone}
 use Rattle.cl_pp.specs.Lines.{told}
 use Rattle.cl_pp.specs.Places.{InOrder, MarksLie, nowhere}
-use Rattle.cl_pp.specs.Preprocessing.{Goes, Preprocesses, State, begin, world_of}
+use Rattle.cl_pp.specs.Preprocessing.{Goes, Preprocesses, begin, world_of}
 use Rattle.cl_pp.specs.Runs.{runs}
 use Rattle.cl_pp.specs.Standing.{meant, numbered}
 use Rattle.cl_pp.specs.code.Going.{GoesOver}

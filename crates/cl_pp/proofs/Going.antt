@@ -1,5 +1,5 @@
 -- The lines of a file, one after the other.
-use Rattle.std.proofs.Common.{◌≡◌, ℕ, ◌+◌, ◌<◌, ◌≤◌, List, [], ◌∷◌, ◌++◌, Option, refl, sym, ap, subst, ◌∙◌, length, drop, get_or, Bool}
+use Rattle.std.proofs.Common.{◌≡◌, ℕ, ◌+◌, ◌<◌, ◌≤◌, List, [], ◌∷◌, Option, refl, sym, subst, length, drop, get_or, Bool}
 use Rattle.std.specs.Prelude.{reverse}
 use Rattle.std.specs.Ordering.{nat_cmp}
 use Rattle.std.specs.BTreeMap.{get}
@@ -16,7 +16,7 @@ use Rattle.cl_macro.specs.declared.table.MacroTable.{MacroTable}
 use Rattle.cl_pp.specs.Activity.{Passed, Question, says}
 use Rattle.cl_pp.specs.Acts.{act}
 use Rattle.cl_pp.specs.Lines.{line_of}
-use Rattle.cl_pp.specs.Preprocessing.{Goes, State, World, behind, end, line, rules_in, TakesLine}
+use Rattle.cl_pp.specs.Preprocessing.{Goes, State, World, end, line, rules_in, TakesLine}
 use Rattle.cl_pp.specs.Standing.{macro_at, number_at}
 use Rattle.cl_pp.specs.Taking as taking
 use Rattle.cl_pp.specs.code.Going.{GoesOver, Takes}

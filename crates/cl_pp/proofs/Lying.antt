@@ -1,5 +1,5 @@
 -- Where lines lie.
-use Rattle.std.proofs.Common.{◌≡◌, ℕ, zero, suc, ◌<◌, ◌≤◌, List, [], ◌∷◌, ◌++◌, subst, sym, arith, length, get_or, Option, Some, None}
+use Rattle.std.proofs.Common.{ℕ, zero, suc, ◌<◌, ◌≤◌, List, [], ◌∷◌, ◌++◌, subst, sym, arith, length, get_or, Option, Some, None}
 use Rattle.std.specs.Prelude.{Bool, true, false, if◌then◌else◌}
 use Rattle.cl_base.specs.declared.token.Token.{Token}
 use Rattle.cl_cond.specs.declared.mark.Mark.{Mark}

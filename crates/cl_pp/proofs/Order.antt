@@ -1,10 +1,9 @@
 -- The tokens of a text after preprocessing follow one another.
-use Rattle.std.proofs.Common.{◌≡◌, ℕ, zero, suc, ◌+◌, ◌-◌, ◌<◌, ◌≤◌, Bool, true, false, List, [], ◌∷◌, ◌++◌, Option, Some, None, refl, sym, ap, subst, ◌∙◌, arith, length, map, take, drop, append_assoc, append-nil, ◌⊎◌, inl, inr}
+use Rattle.std.proofs.Common.{◌≡◌, ℕ, ◌-◌, ◌<◌, ◌≤◌, Bool, true, false, List, [], ◌∷◌, ◌++◌, Option, refl, sym, ap, subst, ◌∙◌, arith, length, map, take, drop, append_assoc, append-nil, inl, inr}
 use Rattle.std.proofs.Math.Seq.{drop-nil}
 use Rattle.std.specs.Prelude.{if◌then◌else◌}
 use Rattle.cl_base.specs.declared.macros.MacroNo.{MacroNo}
 use Rattle.cl_base.specs.declared.token.Span.{Span}
-use Rattle.cl_base.specs.declared.token.PpToken.{PpToken}
 use Rattle.cl_base.specs.declared.token.Token.{Token}
 use Rattle.cl_macro.specs.declared.expanded.Expanded.{Expanded}
 use Rattle.cl_macro.specs.declared.word.Word.{Word}
@@ -12,15 +11,15 @@ use Rattle.cl_macro.specs.declared.note.Note.{Note}
 use Rattle.cl_macro.specs.declared.note.Told.{Told}
 use Rattle.cl_macro.specs.Rules.{Rules}
 use Rattle.cl_macro.specs.Words.{fresh, looks}
-use Rattle.cl_macro.specs.Turns.{Stays, Invokes, Misfits, Open, args_of, set_of, stay_notes, close_of, took, turn}
+use Rattle.cl_macro.specs.Turns.{Invokes, Misfits, args_of, set_of, stay_notes}
 use Rattle.cl_macro.specs.Params.{raws}
-use Rattle.cl_macro.specs.Replacing.{Works, Expands, done, stays, invokes, misfits, open_ended, end, whole, large, end_from, settled, settled_word, span_of}
+use Rattle.cl_macro.specs.Replacing.{Works, Expands, stays, invokes, misfits, open_ended, end, whole, large, settled, settled_word, span_of}
 use Rattle.cl_macro.specs.Expansions.{IsExpansion, token_of}
 use Rattle.cl_macro.proofs.Shapes.{Nothing, shape}
 use Rattle.cl_pp.specs.Places.{Follows, InOrder}
 use Rattle.cl_pp.specs.Lines.{spread_line}
 use Rattle.cl_lex.specs.Order.{AreInOrder}
-use Rattle.cl_pp.proofs.Placing.{AllMade, Laid, Lie, Takes, append_made, args_made, asked_made, drop_made, each_still, invoked_laid, laid, lie_reach, made_made, take_drop, turn_takes}
+use Rattle.cl_pp.proofs.Placing.{AllMade, Laid, Lie, append_made, args_made, asked_made, drop_made, each_still, invoked_laid, laid, made_made, take_drop, turn_takes}
 
 -- ---- what stays as it stands
 

@@ -1,5 +1,5 @@
 -- The tokens of a file follow one another.
-use Rattle.std.proofs.Common.{◌≡◌, ℕ, zero, suc, ◌+◌, ◌-◌, ◌<◌, ◌≤◌, Bool, true, false, List, [], ◌∷◌, ◌++◌, Option, Some, None, refl, sym, ap, subst, ◌∙◌, arith, length, take, drop, append_assoc, append-nil}
+use Rattle.std.proofs.Common.{◌≡◌, ℕ, zero, suc, ◌-◌, ◌≤◌, Bool, true, false, List, [], ◌∷◌, ◌++◌, Option, Some, None, refl, sym, ap, subst, ◌∙◌, arith, length, take, drop, append_assoc, append-nil}
 use Rattle.std.proofs.Math.Seq.{drop-nil}
 use Rattle.std.specs.Prelude.{if◌then◌else◌, is_some, codes}
 use Rattle.cl_base.specs.declared.macros.Macro.{Macro}
@@ -22,7 +22,7 @@ use Rattle.cl_macro.specs.Expansions.{IsExpansion}
 use Rattle.cl_macro.specs.Rules.{Rules}
 use Rattle.cl_pp.specs.declared.done.PpDone.{PpDone}
 use Rattle.cl_pp.specs.Activity.{Question, Active, Outer, says}
-use Rattle.cl_pp.specs.Acts.{Act, Gives, Runs, Asks, Checks, Defines, act, at_branch, checking, defining, directive, is_looked_at, looking, may_take, named, passed_by, taken, tested, undefining}
+use Rattle.cl_pp.specs.Acts.{Act, Gives, Runs, Asks, Checks, Defines, act, checking, defining, directive, is_looked_at, looking, may_take, named, passed_by, taken, tested, undefining}
 use Rattle.cl_pp.specs.LineNumbers.{misfit}
 use Rattle.cl_pp.specs.Lines.{fault_at, included, is_directive, line_of, place_of, rest_of, spread_line}
 use Rattle.cl_pp.specs.Places.{InOrder, MarksLie, nowhere}
@@ -30,7 +30,7 @@ use Rattle.cl_pp.specs.Preprocessing.{Goes, State, World, act_at, behind, rules_
 use Rattle.cl_pp.specs.Standing.{macro_at, number_at, with_faults}
 use Rattle.cl_pp.specs.Taking.{Becomes, Takes, defined_by}
 use Rattle.cl_pp.proofs.Order.{expanded_order}
-use Rattle.cl_pp.proofs.Shapes.{Lined, shape}
+use Rattle.cl_pp.proofs.Shapes.{shape}
 
 -- ---- only a run adds tokens
 

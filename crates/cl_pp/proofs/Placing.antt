@@ -1,5 +1,5 @@
 -- Where the tokens lie that a run comes to.
-use Rattle.std.proofs.Common.{◌≡◌, ℕ, zero, suc, ◌+◌, ◌-◌, ◌<◌, ◌≤◌, Bool, true, false, List, [], ◌∷◌, ◌++◌, Option, Some, None, refl, sym, ap, subst, ◌∙◌, arith, length, map, take, drop, append_assoc, append-nil, ◌⊎◌, inl, inr}
+use Rattle.std.proofs.Common.{◌≡◌, ℕ, zero, suc, ◌+◌, ◌-◌, ◌<◌, ◌≤◌, Bool, true, false, List, [], ◌∷◌, ◌++◌, Option, Some, None, refl, sym, ap, subst, ◌∙◌, arith, length, map, take, drop, append_assoc, append-nil}
 use Rattle.std.proofs.Math.Seq.{drop-nil}
 use Rattle.std.specs.Prelude.{if◌then◌else◌, slice_get}
 use Rattle.cl_base.specs.declared.macros.Macro.{Macro}
@@ -13,7 +13,7 @@ use Rattle.cl_macro.specs.declared.part.Part.TheVariants as part
 use Rattle.cl_macro.specs.Rules.{Rules}
 use Rattle.cl_macro.specs.Words.{all_look, is_ident, looks, painted, place_of, taken}
 use Rattle.cl_macro.specs.Turns.{Turn, Stays, Invokes, Misfits, Open, args_by, args_of, arguments, before_first, called, close_at, close_of, ended, fits, invoking, is_open, meaning, parted, parts, depth_after, set_of, stay_notes, took, took_by, turn, turn_by, turn_of}
-use Rattle.cl_macro.specs.Params.{asked, is_needed, needed_from, needed_one, raws}
+use Rattle.cl_macro.specs.Params.{asked, is_needed, needed_from, raws}
 use Rattle.cl_macro.specs.Pasting.{Joined, glue, joins, parts_of, spaced, unspaced}
 use Rattle.cl_macro.specs.Made.{is_file, is_line, made, made_notes, whole_body}
 use Rattle.cl_macro.specs.Replacing.{Works, Each, done, stays, invokes, misfits, open_ended, none, next, end_from}

@@ -1,13 +1,12 @@
 -- What replacement adds.
 use Rattle.std.specs.Prelude.{if◌then◌else◌, codes, OnOk, Result}
-use Rattle.std.proofs.Common.{◌≡◌, ℕ, ◌+◌, Bool, true, false, List, [], ◌∷◌, ◌++◌, Option, Some, refl, sym, ap, subst, ◌∙◌, length, map}
+use Rattle.std.proofs.Common.{◌≡◌, ℕ, ◌+◌, Bool, true, false, List, ◌∷◌, ◌++◌, Option, refl, sym, ap, subst, ◌∙◌, length, map}
 use Rattle.cl_base.specs.declared.macros.Macro.{Macro}
 use Rattle.cl_base.specs.declared.macros.MacroNo.{MacroNo}
 use Rattle.cl_base.specs.declared.memory.Memory.{Memory}
 use Rattle.cl_base.specs.declared.token.PpToken.{PpToken}
 use Rattle.cl_base.specs.declared.token.Span.{Span}
 use Rattle.cl_base.specs.declared.token.Token.{Token}
-use Rattle.cl_base.specs.declared.token.Diag.{Diag}
 use Rattle.cl_base.specs.Tokens.{is_ident, is_word}
 use Rattle.cl_cond.specs.declared.eval.IfValue.{IfValue}
 use Rattle.cl_cond.specs.Conditions.{EvaluatesTo}
@@ -19,11 +18,10 @@ use Rattle.cl_macro.specs.Levels.{rules_of}
 use Rattle.cl_macro.specs.Rules.{Rules}
 use Rattle.cl_macro.specs.Strings.{escaped, quoted}
 use Rattle.cl_pp.specs.declared.done.PpDone.{PpDone}
-use Rattle.cl_pp.specs.declared.made.Reach.{Reach}
 use Rattle.cl_pp.specs.declared.made.Reach.TheVariants as reach
 use Rattle.cl_pp.specs.Lines.{bad_if, bad_line, fault_at, is_true}
 use Rattle.cl_pp.specs.Preprocessing.{World, rules_in}
-use Rattle.cl_pp.specs.Standing.{use_at, with_asked, with_faults, with_looked, with_replaced, with_run}
+use Rattle.cl_pp.specs.Standing.{use_at, with_asked, with_faults, with_looked, with_replaced}
 use Rattle.cl_pp.specs.Acts.{Act, Defines, Gives, defining, named}
 use Rattle.cl_pp.specs.LineNumbers.{misfit}
 use Rattle.cl_pp.specs.Taking.{IsChecked, IsCondition, IsDefinition, IsRun, Takes}

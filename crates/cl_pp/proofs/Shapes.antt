@@ -1,5 +1,5 @@
 -- What going over lines comes from.
-use Rattle.std.proofs.Common.{◌≡◌, List, [], ◌∷◌, ◌++◌, Bool, refl, sym, ap, subst, ◌∙◌}
+use Rattle.std.proofs.Common.{◌≡◌, List, [], ◌∷◌, ◌++◌, Bool, refl, sym, subst}
 use Rattle.cl_base.specs.declared.token.Token.{Token}
 use Rattle.cl_pp.specs.declared.done.PpDone.{PpDone}
 use Rattle.cl_cond.specs.declared.mark.Mark.{Mark}

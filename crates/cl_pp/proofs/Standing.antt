@@ -1,13 +1,11 @@
 -- The open sections give the answers of the lines before.
 use Rattle.std.proofs.Common.{◌≡◌, ℕ, zero, suc, List, [], ◌∷◌, refl, sym, ap, ◌∙◌, Bool, true, false, ◌&&◌, subst}
 use Rattle.std.specs.Prelude.{slice_index_or, not, reverse, if◌then◌else◌}
-use Rattle.cl_base.specs.declared.token.Token.{Token}
 use Rattle.cl_cond.specs.declared.mark.Part.{Part}
 use Rattle.cl_cond.specs.declared.mark.Part.TheVariants.{Line, Branch, End}
 use Rattle.cl_cond.specs.Sections.{opens}
 use Rattle.cl_pp.specs.declared.section.Section.{Section}
 use Rattle.cl_pp.specs.Activity.{Passed, Question, Active, Free, Outer, at_branch, by_part, says}
-
 use Rattle.cl_pp.specs.code.Stacks.{all_active, below, stacked, tell, top_of, under}
 
 abbrev nth : List Section → ℕ → Section

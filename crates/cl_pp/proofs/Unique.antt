@@ -1,5 +1,5 @@
 -- A text comes to one thing.
-use Rattle.std.proofs.Common.{◌≡◌, ℕ, Bool, false, List, [], ◌∷◌, ◌++◌, Option, Some, None, refl, sym, ap, subst, ◌∙◌, map}
+use Rattle.std.proofs.Common.{◌≡◌, ℕ, Bool, List, [], ◌∷◌, Option, Some, None, refl, sym, ap, subst, ◌∙◌}
 use Rattle.std.specs.Prelude.{MatchOption}
 use Rattle.cl_base.specs.declared.macros.Macro.{Macro}
 use Rattle.cl_base.specs.declared.macros.MacroNo.{MacroNo}
@@ -9,9 +9,7 @@ use Rattle.cl_base.specs.declared.token.PpToken.{PpToken}
 use Rattle.cl_base.specs.declared.token.Span.{Span}
 use Rattle.cl_base.specs.declared.token.Token.{Token}
 use Rattle.cl_lex.specs.Items.{IsOneToken}
-use Rattle.cl_lex.specs.Lexing.{Lexes}
 use Rattle.cl_lex.proofs.Unique.{one_lexed}
-use Rattle.cl_cond.specs.declared.eval.IfValue.{IfValue}
 use Rattle.cl_cond.specs.declared.mark.Mark.{Mark}
 use Rattle.cl_cond.specs.declared.mark.Groups.{Groups}
 use Rattle.cl_cond.specs.Conditions.{EvaluatesTo}
@@ -35,7 +33,7 @@ use Rattle.cl_pp.specs.Preprocessing.{Goes, Preprocesses, State, World, act_at, 
 use Rattle.cl_pp.specs.Runs.{runs}
 use Rattle.cl_pp.specs.Standing.{macro_at, number_at, with_asked, with_faults, with_run}
 use Rattle.cl_pp.specs.Taking.{Becomes, IsChecked, IsCondition, IsDefinition, IsRead, IsRun, Takes, defined_by}
-use Rattle.cl_pp.proofs.Shapes.{Lined, shape}
+use Rattle.cl_pp.proofs.Shapes.{shape}
 
 one_read : (ts : List Token) (x y : Option Macro) → IsRead ts x → IsRead ts y → x ≡ y
 one_read ts None None h k = refl
@@ -71,9 +69,10 @@ module _ (rules_at : Span → Rules) (numbers : List ℕ → Option MacroNo) (li
   one_condition : (ts : List PpToken) (old : PpDone) (h k : Bool) (x y : PpDone) → IsCondition rules_at numbers line ts old h x → IsCondition rules_at numbers line ts old k y → (h ≡ k) × (x ≡ y)
   one_condition ts old h k x y a b =
       let e : a.all ≡ b.all = one_expanded rules_at numbers ts a.all b.all a.expands b.expands in
-      let v : a.value ≡ b.value = one_value (words_from 0 b.all.tokens) a.value b.value (subst (λ (z : Expanded). EvaluatesTo (words_from 0 z.tokens) a.value) e a.comes) b.comes in
-      (a.holds ∙ ap is_true v ∙ sym b.holds,
-      a.is ∙ (λ i. with_faults (bad_if (v i) (e i).tokens line) (with_asked (e i) old)) ∙ sym b.is)
+      let v : a.value ≡ b.value = one_value (words_from 0 b.all.tokens) a.value b.value (subst (λ (z : Expanded). EvaluatesTo (words_from 0 z.tokens) a.value) e a.comes) b.comes in (
+        a.holds ∙ ap is_true v ∙ sym b.holds,
+        a.is ∙ (λ i. with_faults (bad_if (v i) (e i).tokens line) (with_asked (e i) old)) ∙ sym b.is,
+      )
 
   one_definition : (ts : List Token) (old x y : PpDone) → IsDefinition rules_at ts old x → IsDefinition rules_at ts old y → x ≡ y
   one_definition ts old x y a b =

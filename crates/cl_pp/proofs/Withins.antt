@@ -1,5 +1,5 @@
 -- The tokens of a line stand in the text.
-use Rattle.std.proofs.Common.{◌≡◌, ℕ, zero, suc, ◌-◌, ◌<◌, ◌≤◌, Bool, true, false, List, [], ◌∷◌, Option, refl, subst, arith, length, map, take, drop}
+use Rattle.std.proofs.Common.{ℕ, zero, suc, ◌-◌, ◌≤◌, Bool, true, false, List, [], ◌∷◌, Option, arith, length, map, take, drop}
 use Rattle.std.specs.Prelude.{◌==◌, if◌then◌else◌, is_some}
 use Rattle.cl_base.specs.declared.macros.Macro.{Macro}
 use Rattle.cl_base.specs.declared.token.Token.{Token}
@@ -7,7 +7,7 @@ use Rattle.cl_base.specs.declared.token.PpToken.{PpToken}
 use Rattle.cl_lex.specs.Order.{AreInOrder}
 use Rattle.cl_macro.specs.Levels.{Within as AreWithin}
 use Rattle.cl_macro.specs.Words.{fresh}
-use Rattle.cl_pp.specs.Defined.{decided_from, number_for, operand_name, replaced, spread, taken}
+use Rattle.cl_pp.specs.Defined.{decided_from, number_for, operand_name, spread, taken}
 use Rattle.cl_pp.specs.Lines.{rest_of, spread_line}
 use Rattle.cl_pp.specs.Places.{Within}
 

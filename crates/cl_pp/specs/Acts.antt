@@ -1,5 +1,5 @@
 -- What is to be done with a line (N1570 6.10).
-use Rattle.std.specs.Prelude.{ℕ, ◌||◌, not, List, [], ◌∷◌, Bool, true, false, if◌then◌else◌, Option, None, is_some, codes}
+use Rattle.std.specs.Prelude.{ℕ, not, List, [], ◌∷◌, Bool, true, false, if◌then◌else◌, Option, None, is_some, codes}
 use Rattle.cl_base.specs.declared.token.Token.{Token}
 use Rattle.cl_base.specs.declared.token.PpToken.{PpToken}
 use Rattle.cl_pp.specs.declared.done.PpDone.{PpDone}
@@ -16,7 +16,7 @@ use Rattle.cl_define.specs.Predefined.{is_reserved}
 use Rattle.cl_pp.specs.Activity.{Question, Active, Free, Outer}
 use Rattle.cl_pp.specs.Defined.{asked, decided}
 use Rattle.cl_pp.specs.LineNumbers.{misfit}
-use Rattle.cl_pp.specs.Lines.{extra, fault_at, included, is_directive, is_unread, line_strays, rest_of, spread_line}
+use Rattle.cl_pp.specs.Lines.{extra, fault_at, included, is_directive, line_strays, rest_of, spread_line}
 use Rattle.cl_pp.specs.Standing.{with_event, with_faults, with_looked}
 
 pub data Act : Type 0 where

@@ -10,7 +10,7 @@ use Rattle.cl_base.specs.declared.token.Diag.{Diag}
 use Rattle.cl_cond.specs.declared.eval.IfValue.{IfValue}
 use Rattle.cl_cond.specs.declared.eval.IfValue.TheVariants.{Value, BadIf}
 use Rattle.cl_cond.specs.declared.mark.Mark.{Mark}
-use Rattle.cl_base.specs.Tokens.{is_hash, is_ident, is_word}
+use Rattle.cl_base.specs.Tokens.{is_hash, is_word}
 use Rattle.cl_pp.specs.Defined.{span_at, spread}
 
 abbrev pub diag : ℕ → ℕ → ℕ → Diag

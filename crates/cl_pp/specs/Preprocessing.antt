@@ -1,5 +1,5 @@
 -- What a file is after preprocessing (N1570 5.1.1.2 phase 4, 6.10), where no file is entered.
-use Rattle.std.specs.Prelude.{◌≡◌, ℕ, ◌+◌, ◌==◌, Bool, List, [], ◌∷◌, ◌++◌, map, filter, Option, None}
+use Rattle.std.specs.Prelude.{◌≡◌, ℕ, ◌+◌, ◌==◌, Bool, List, [], ◌∷◌, ◌++◌, map, filter, Option}
 use Rattle.cl_base.specs.declared.token.Kind.{Kind}
 use Rattle.cl_base.specs.declared.token.Span.{Span}
 use Rattle.cl_base.specs.declared.token.Token.{Token}

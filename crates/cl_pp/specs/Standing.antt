@@ -1,6 +1,6 @@
 -- What stands after some lines of a file, and what lines add to it (N1570 6.10.3, 6.10.3.5). The lists have the oldest
 -- first.
-use Rattle.std.specs.Prelude.{ℕ, ◌+◌, Bool, if◌then◌else◌, List, [], ◌∷◌, ◌++◌, Option, Some, None, length, map}
+use Rattle.std.specs.Prelude.{ℕ, ◌+◌, if◌then◌else◌, List, [], ◌∷◌, ◌++◌, Option, Some, None, length, map}
 use Rattle.cl_base.specs.declared.macros.Macro.{Macro}
 use Rattle.cl_base.specs.declared.macros.MacroEvent.{MacroEvent}
 use Rattle.cl_base.specs.declared.macros.MacroNo.{MacroNo}
@@ -10,7 +10,7 @@ use Rattle.cl_base.specs.declared.token.PpToken.{PpToken}
 use Rattle.cl_macro.specs.declared.expanded.Expanded.{Expanded}
 use Rattle.cl_macro.specs.declared.expanded.MacroUse.{MacroUse}
 use Rattle.cl_macro.specs.Table.{is_name}
-use Rattle.cl_pp.specs.Names.{with_name, with_names}
+use Rattle.cl_pp.specs.Names.{with_names}
 
 -- ---- what a name means
 

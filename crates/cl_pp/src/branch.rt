@@ -119,13 +119,7 @@ fn tested(
 }
 
 /// Goes over an `#if` or `#elif`, and answers whether its condition is fulfilled.
-fn ask(
-    alloc: Global,
-    file: &File,
-    table: &MacroTable,
-    made: &mut Made,
-    line: &[Token],
-) -> Mem<bool>
+fn ask(alloc: Global, file: &File, table: &MacroTable, made: &mut Made, line: &[Token]) -> Mem<bool>
     requires { Sees made.now }
     ensures done { (w : World) → Suits file.now w → Within (length w.text) line.now → IfOk result (λ held. Takes (rules_in w (lookup table.now)) (number_of table.now) line.now (asking (lookup table.now) line.now made.old.done) held made.new.done) }
     ensures events { OnOk result (made.new.done.events ≡ made.old.done.events) }

@@ -43,12 +43,7 @@ pub(crate) fn defining(
 }
 
 /// Goes over the tokens behind `define`.
-fn define(
-    alloc: Global,
-    table: &mut MacroTable,
-    made: &mut Made,
-    tokens: &[Token],
-) -> Mem<()>
+fn define(alloc: Global, table: &mut MacroTable, made: &mut Made, tokens: &[Token]) -> Mem<()>
     requires { Sees made.now }
     ensures done { (w : World) → OnOk result (IsDefinition (rules_in w (lookup table.old)) tokens.now made.old.done made.new.done) }
     ensures keeps { (start : TheList ℕ → Option TheMacro) → Keeps start table.old made.old.done → OnOk result (Keeps start table.new made.new.done) }

@@ -1,6 +1,5 @@
 use Rattle.std.proofs.Common.{refl, subst, sym, ap, ◌∙◌, List, map, length}
 use Rattle.cl_base.specs.declared.token.PpToken.{PpToken}
-use Rattle.cl_base.specs.declared.token.Token.{Token}
 use Rattle.cl_macro.specs.Levels.{Within as AreWithin}
 use Rattle.cl_macro.specs.Words.{fresh}
 use Rattle.cl_pp.specs.Defined.{asked, decided}

@@ -1,4 +1,4 @@
-use Rattle.std.proofs.Common.{List, [], ◌∷◌, ◌++◌, None, ◌∙◌}
+use Rattle.std.proofs.Common.{[], ◌∷◌, ◌++◌, None, ◌∙◌}
 use Rattle.cl_pp.proofs.Events.{kept_event}
 use Rattle.cl_pp.proofs.directive.undefine.Goals as goal
 

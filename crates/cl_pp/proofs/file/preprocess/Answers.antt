@@ -1,14 +1,12 @@
-use Rattle.std.proofs.Common.{◌≡◌, ℕ, List, Option, None, ◌++◌, refl, sym, subst, ◌∙◌, length, map}
+use Rattle.std.proofs.Common.{List, None, ◌++◌, refl, sym, subst, ◌∙◌, length, map}
 use Rattle.std.specs.Ordering.{nat_cmp}
 use Rattle.std.specs.BTreeMap.{get}
 use Rattle.cl_base.specs.declared.token.Token.{Token}
 use Rattle.cl_macro.proofs.Teller.{some_teller}
 use Rattle.cl_pp.specs.declared.done.PpDone.{PpDone}
-use Rattle.cl_pp.specs.declared.made.File.{File}
 use Rattle.cl_pp.specs.Lines.{spread_fault}
 use Rattle.cl_pp.specs.Places.{Within}
-use Rattle.cl_pp.specs.Preprocessing.{Preprocesses, World, begin, open_comments, world_of}
-use Rattle.cl_pp.specs.code.Keeping.{Suits}
+use Rattle.cl_pp.specs.Preprocessing.{World, open_comments, world_of}
 use Rattle.cl_pp.proofs.Found.{found, keeps_first, lie_found, order_found, runs_found, told_is}
 use Rattle.cl_pp.proofs.Withins.{within_order}
 use Rattle.cl_pp.proofs.file.preprocess.Goals as goal
