@@ -2,6 +2,7 @@
 
 ghost use Rattle.std.specs.Prelude.{◌≡◌, ◌++◌, ◌∷◌, [], ℕ, List as TheList, Option, Some, false, OnOk};
 ghost use Rattle.cl_base.specs.declared.macros.Macro.{Macro as TheMacro};
+ghost use Rattle.cl_base.specs.declared.token.Token.{Token as TheToken};
 ghost use Rattle.cl_pp.specs.Acts.{defining};
 ghost use Rattle.cl_pp.specs.Lines.{invalid, place_of, redefined};
 ghost use Rattle.cl_pp.specs.Preprocessing.{World, rules_in};
@@ -25,10 +26,9 @@ pub(crate) fn defining(
     made: &mut Made,
     name: &Token,
     rest: &[Token],
-    _line: &[Token],
 ) -> Mem<()>
     requires { Sees made.now }
-    ensures done { (w : World) → OnOk result (Takes (rules_in w (lookup table.old)) (number_of table.old) _line.now (defining name.now rest.now made.old.done) false made.new.done) }
+    ensures done { (w : World) (line : TheList TheToken) → OnOk result (Takes (rules_in w (lookup table.old)) (number_of table.old) line (defining name.now rest.now made.old.done) false made.new.done) }
     ensures keeps { (start : TheList ℕ → Option TheMacro) → Keeps start table.old made.old.done → OnOk result (Keeps start table.new made.new.done) }
     ensures sees { OnOk result (Sees made.new) }
 {

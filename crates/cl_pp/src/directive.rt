@@ -63,7 +63,7 @@ fn named(
     ensures sees { OnOk result (Sees made.new) }
 {
     if name.is_word(b"define".as_slice()) {
-        defining(alloc, table, made, name, rest, line)
+        defining(alloc, table, made, name, rest)
     } else if name.is_word(b"undef".as_slice()) {
         undefining(alloc, table, made, name, rest)
     } else if name.is_word(b"include".as_slice()) {

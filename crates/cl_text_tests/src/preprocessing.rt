@@ -95,7 +95,10 @@ fn macros_of_a_text(rt: HostRuntime) -> Result<(), Fail> {
             "f@15 (@16 1@20 )@21 !20@15-16 ",
         ),
         (b"#define f(x) <x>\nf(1\n)\n", "<@17 1@17 >@17 "),
-        (b"#define f(x) <x>\nf(1\n#endif\n)\n", "f@17 (@18 1@19 )@28 !12@22-27 !20@17-18 "),
+        (
+            b"#define f(x) <x>\nf(1\n#endif\n)\n",
+            "f@17 (@18 1@19 )@28 !12@22-27 !20@17-18 ",
+        ),
         (
             b"#line 5\n#line 0\n#define N 7 \"x\"\n#line N\n#line N N\n#line 2147483648\n#line 1 L\"a\"\n",
             "!23@14-15 !23@48-49 !23@56-66 !23@75-79 ",
@@ -162,11 +165,11 @@ fn deep_sections_and_parentheses(rt: HostRuntime) -> Result<(), Fail> {
     assert!(rt; done.faults.len() == 100_000, "no section is ended");
     let mut text = Vec::new(alloc);
     text.extend_from_slice(b"#if ")?;
-    for _ in 0..2_500_000 {
+    for _ in 0..300_000 {
         text.push(b'(')?;
     }
     text.push(b'1')?;
-    for _ in 0..2_500_000 {
+    for _ in 0..300_000 {
         text.push(b')')?;
     }
     text.extend_from_slice(b"\na\n#endif\n")?;
