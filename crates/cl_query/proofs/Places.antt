@@ -1,5 +1,5 @@
 -- Where the tokens lie, by their numbers.
-use Rattle.std.proofs.Common.{◌≡◌, ℕ, ◌≤◌, ◌<◌, ◌+◌, suc, zero, List, [], ◌∷◌, sym, ap, ◌∙◌, arith, length, ◌⊎◌, inl, inr}
+use Rattle.std.proofs.Common.{ℕ, ◌≤◌, ◌<◌, suc, zero, List, [], ◌∷◌, sym, ap, ◌∙◌, arith, length, inl, inr}
 use Rattle.cl_base.specs.declared.token.PpToken.{PpToken}
 use Rattle.cl_base.specs.declared.token.Span.{Span}
 use Rattle.cl_parse.specs.Tokens.{span_at}

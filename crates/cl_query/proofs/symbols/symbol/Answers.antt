@@ -1,4 +1,4 @@
-use Rattle.std.proofs.Common.{◌≡◌, ◌+◌, ◌≤◌, length, ap, sym, subst, ◌∙◌, refl, arith}
+use Rattle.std.proofs.Common.{◌+◌, ◌≤◌, length, ap, sym, subst, ◌∙◌, refl, arith}
 use Rattle.cl_base.specs.declared.token.Span.{Span}
 use Rattle.cl_base.specs.Lines.{position_at}
 use Rattle.cl_query.proofs.Places.{ahead_of, place}
