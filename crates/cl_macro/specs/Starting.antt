@@ -2,7 +2,6 @@
 use Rattle.std.specs.Prelude.{◌≡◌, ℕ, List, [], ◌∷◌, ◌++◌, Option, Some, None, if◌then◌else◌, MatchOption, option_to_list}
 use Rattle.cl_base.specs.declared.config.Define.{Define}
 use Rattle.cl_base.specs.declared.macros.Macro.{Macro}
-use Rattle.cl_base.specs.declared.macros.MacroNo.{MacroNo}
 use Rattle.cl_base.specs.declared.token.Lexed.{Lexed}
 use Rattle.cl_lex.specs.Lexing.{Lexes}
 use Rattle.cl_define.specs.Definitions.{Stands}
@@ -17,7 +16,7 @@ pub record Comes (d : Define) (m : Option Macro) : Type 0 where
   pub lexes : Lexes d.text lexed
   pub stands : MatchOption m ((mac : Macro) → Stands d.name lexed.tokens mac → ⊥) (Stands d.name lexed.tokens)
 
--- those of all
+-- what all come to, in order
 pub data Given : List Define → List Macro → Type 0 where
   none : Given [] []
   more : (d : Define) (ds : List Define) (m : Option Macro) (ms : List Macro) → Comes d m → Given ds ms → Given (d ∷ ds) (option_to_list m ++ ms)
@@ -27,16 +26,19 @@ abbrev pub last_of : List Macro → List ℕ → Option Macro → Option Macro
 last_of [] name found = found
 last_of (m ∷ ms) name found = last_of ms name (if is_name m.name name then Some m else found)
 
--- names have been given these macros, in order, and there has been no event
-pub record IsGiven (macros : List Macro) (old new : MacroTable) : Type 0 where
-  pub macros_are : (base : List ℕ → Option Macro) (name : List ℕ) → macro_of new base name ≡ last_of macros name (macro_of old base name)
-  pub unnumbered : (name : List ℕ) → event_of old (λ other. None) name ≡ None → event_of new (λ other. None) name ≡ None
-  pub count : new.events ≡ old.events
+-- the macro that a name has before a text begins, if it has one, where the defines come to these: the last of its name, else
+-- the base's
+abbrev pub start_over : List Macro → (List ℕ → Option Macro) → List ℕ → Option Macro
+start_over given base name = last_of (predefined ++ given) name (base name)
 
--- the table has the predefined macros and these, and there has been no event
+-- where there is no base
+abbrev pub start_of : List Macro → List ℕ → Option Macro
+start_of given = start_over given (λ other. None)
+
+-- names have the macros that they have before a text begins, and there has been no event
 pub record IsStart (defines : List Define) (table : MacroTable) : Type 0 where
   pub macros : List Macro
   pub given : Given defines macros
-  pub macros_are : (base : List ℕ → Option Macro) (name : List ℕ) → macro_of table base name ≡ last_of (predefined ++ macros) name (base name)
+  pub macros_are : (base : List ℕ → Option Macro) (name : List ℕ) → macro_of table base name ≡ start_over macros base name
   pub unnumbered : (name : List ℕ) → event_of table (λ other. None) name ≡ None
   pub count : table.events ≡ 0

@@ -1,11 +1,12 @@
 //! The macros that are there before a text begins.
 
 ghost use Rattle.std.specs.Prelude.{◌≡◌, ◌++◌, ◌∷◌, [], option_to_list, IfOk, OnOk};
-ghost use Rattle.cl_macro.specs.Starting.{Comes, Given, IsGiven, IsStart};
+ghost use Rattle.cl_macro.specs.Starting.{Comes, Given, IsStart};
+ghost use Rattle.cl_macro.specs.code.Giving.{IsGiven};
 
 use crate::args::reversed;
 use crate::table::MacroTable;
-use cl_base::{Config, Duplicate, Define, List, Macro, Mem};
+use cl_base::{Config, Define, Duplicate, List, Macro, Mem};
 use cl_define::{object_like, predefined};
 use cl_lex::lex;
 use std::alloc::Global;
@@ -63,8 +64,10 @@ impl MacroTable {
         Ok(())
     }
 
-    /// The predefined macros (N1570 6.10.8) and those of a config, none of which is an event. A later one stands in place
-    /// of an earlier one of its name. A define of the config that no line may make has no effect.
+    /// The macros that are there before a text begins: the predefined ones (N1570 6.10.8) and then those that the config
+    /// defines, none of which is an event. A define's replacement list is the tokens of its text, and its macro is an
+    /// object-like one (6.10.3p9). A later define stands in place of an earlier one of its name. One that no line may make
+    /// has no effect (6.10.3p3, 6.10.3.3p1, 6.10.3p5, 6.10.8p4).
     pub fn start(alloc: Global, config: &Config) -> Mem<MacroTable>
         ensures { IfOk result (IsStart config.now.defines) }
     {
