@@ -5,7 +5,7 @@ ghost use Rattle.std.specs.Option.{option_copied, option_map};
 ghost use Rattle.cl_base.specs.Lent.{lent_value};
 ghost use Rattle.cl_base.specs.declared.macros.Macro.{Macro as TheMacro};
 ghost use Rattle.cl_base.specs.declared.macros.MacroNo.{MacroNo as TheNo};
-ghost use Rattle.cl_macro.specs.Table.{IsAsBefore, IsPut, event_of, macro_of};
+ghost use Rattle.cl_macro.specs.Table.{IsAsBefore, IsPut, event_of, is_name, macro_of};
 
 use crate::base::MacroBase;
 use cl_base::{Duplicate, Lent, Macro, MacroNo, Mem, Memory, Name};
@@ -86,6 +86,20 @@ impl MacroTable {
             return Ok(no);
         };
         Ok(entry.event)
+    }
+
+    /// Gives the name a macro without an event.
+    pub(crate) fn keep(&mut self, name: Name, mac: Macro) -> Mem<()>
+        ensures macros { (base : List ℕ → Option TheMacro) (other : List ℕ) → OnOk result (macro_of self.new base other ≡ (if is_name name other then Some mac else macro_of self.old base other)) }
+        ensures events { (other : List ℕ) → event_of self.old (λ name. None) other ≡ None → OnOk result (event_of self.new (λ name. None) other ≡ None) }
+        ensures count { OnOk result (self.new.events ≡ self.old.events) }
+    {
+        let entry = Entry {
+            set: Some(mac),
+            event: None,
+        };
+        self.entries.insert(name, entry)?;
+        Ok(())
     }
 
     /// The next event gives the name this macro, or none.
