@@ -1,6 +1,7 @@
 -- Every text comes to something.
 use Rattle.std.proofs.Common.{◌≡◌, ℕ, Bool, true, false, List, [], ◌∷◌, Option, Some, None, refl, subst, inl, inr}
 use Rattle.std.specs.Bool.{Decides}
+use Rattle.cl_base.specs.declared.config.Settings.{Settings}
 use Rattle.cl_base.specs.declared.macros.Macro.{Macro}
 use Rattle.cl_base.specs.declared.macros.MacroNo.{MacroNo}
 use Rattle.cl_base.specs.declared.token.Span.{Span}
@@ -19,11 +20,13 @@ use Rattle.cl_macro.specs.Defining.{IsDefined, IsOver}
 use Rattle.cl_macro.specs.Rules.{Rules}
 use Rattle.cl_macro.proofs.Plain.{some_expanded}
 use Rattle.cl_macro.proofs.Teller.{some_teller}
+use Rattle.cl_macro.specs.Starting.{start_of}
+use Rattle.cl_macro.proofs.Starting.{some_given}
 use Rattle.cl_pp.specs.declared.done.PpDone.{PpDone}
 use Rattle.cl_pp.specs.Acts.{Act, Gives, Runs, Asks, Checks, Defines}
 use Rattle.cl_pp.specs.LineNumbers.{misfit}
 use Rattle.cl_pp.specs.Lines.{bad_if, bad_line, invalid, is_true, place_of}
-use Rattle.cl_pp.specs.Preprocessing.{Goes, Preprocesses, State, World, act_at, begin, behind, end, line, rules_in, world_of}
+use Rattle.cl_pp.specs.Preprocessing.{Goes, Preprocesses, PreprocessesFrom, State, World, act_at, begin, behind, end, line, rules_in, world_of}
 use Rattle.cl_pp.specs.Runs.{runs}
 use Rattle.cl_pp.specs.Standing.{macro_at, number_at, with_asked, with_faults, with_run}
 use Rattle.cl_pp.specs.Taking.{Becomes, IsRead, Takes, defined_by}
@@ -88,8 +91,8 @@ some_goes w tokens (mark ∷ marks) s =
     let more = some_goes w tokens marks (behind mark one.held one.done s) in
     record { last = more.last; goes = line mark marks s one.held one.done more.last one.takes more.goes }
 
-pub some_preprocessed : (start : List ℕ → Option Macro) (path text : List ℕ) → (done : PpDone) × Preprocesses start path text done
-some_preprocessed start path text =
+some_from : (start : List ℕ → Option Macro) (path text : List ℕ) → (done : PpDone) × PreprocessesFrom start path text done
+some_from start path text =
     let lexed = some_lexed text in
     let groups = some_grouping lexed.lexed.tokens in
     let teller = some_teller in
@@ -107,3 +110,9 @@ some_preprocessed start path text =
         is = refl;
       },
     )
+
+pub some_preprocessed : (config : Settings) (path text : List ℕ) → (done : PpDone) × Preprocesses config path text done
+some_preprocessed config path text =
+    let macros = some_given config.defines in
+    let from = some_from (start_of macros.0) path text in
+    (from.0, record { macros = macros.0; given = macros.1; preprocessed = from.1 })

@@ -16,7 +16,7 @@ use Rattle.cl_macro.specs.Rules.{TellsTokens}
 use Rattle.cl_pp.specs.declared.done.PpDone.{PpDone}
 use Rattle.cl_pp.specs.Lines.{told}
 use Rattle.cl_pp.specs.Places.{InOrder, MarksLie, nowhere}
-use Rattle.cl_pp.specs.Preprocessing.{Goes, Preprocesses, begin, world_of}
+use Rattle.cl_pp.specs.Preprocessing.{Goes, PreprocessesFrom, begin, world_of}
 use Rattle.cl_pp.specs.Runs.{runs}
 use Rattle.cl_pp.specs.Standing.{meant, numbered}
 use Rattle.cl_pp.specs.code.Going.{GoesOver}
@@ -37,10 +37,10 @@ runs_found lexed first cut tokens groups marks all lines f c t m a l h =
     (subst (λ (ts : List Token). MarksLie 0 (length ts) (runs cut marks)) (c ∙ sym t) (runs_lie cut marks (length cut) (lie_found lexed cut first groups marks f c m h)))
 
 -- no event has been yet
-pub keeps_first : (table : MacroTable) (old : PpDone) → old.events ≡ [] → ((name : List ℕ) → lookup table name ≡ None) → ((name : List ℕ) → number_of table name ≡ None) → table.events ≡ 0
-    → Keeps (λ name. None) table old
-keeps_first table old e m n c = record {
-  macros_are = λ name. m name ∙ ap (λ es. meant es name None) (sym e);
+pub keeps_first : (start : List ℕ → Option Macro) (table : MacroTable) (old : PpDone) → old.events ≡ [] → ((name : List ℕ) → lookup table name ≡ start name) → ((name : List ℕ) → number_of table name ≡ None) → table.events ≡ 0
+    → Keeps start table old
+keeps_first start table old e m n c = record {
+  macros_are = λ name. m name ∙ ap (λ es. meant es name (start name)) (sym e);
   numbers_are = λ name. n name ∙ ap (λ es. numbered 0 es name None) (sym e);
   count = c ∙ ap length (sym e);
 }
@@ -50,7 +50,7 @@ told_is fs faults e begins h at = h at ∙ ap (λ (xs : List Fault). told xs at)
 
 pub found : (start : List ℕ → Option Macro) (path text : List ℕ) (one_token : List ℕ → Option Kind) (lexed : Lexed) (groups : Groups) (first cut tokens : List Token) (marks all lines : List Mark) (old done : PpDone)
     → TellsTokens one_token → Lexes text lexed → GroupsOf first groups → first ≡ lexed.tokens → cut ≡ lexed.tokens → tokens ≡ lexed.tokens → marks ≡ groups.marks → all ≡ runs cut marks → lines ≡ all
-    → old ≡ (begin lexed.faults groups.faults).done → GoesOver (world_of path text lexed.faults one_token start) tokens lines old done → Preprocesses start path text done
+    → old ≡ (begin lexed.faults groups.faults).done → GoesOver (world_of path text lexed.faults one_token start) tokens lines old done → PreprocessesFrom start path text done
 found start path text one_token lexed groups first cut tokens marks all lines old done t lexes grouped f c k m a l o g =
     let runs_are : lines ≡ runs lexed.tokens groups.marks = l ∙ a ∙ (λ i. runs (c i) (m i)) in
     record {
@@ -67,7 +67,7 @@ found start path text one_token lexed groups first cut tokens marks all lines ol
       is = g.is;
     }
 
-pub order_found : (start : List ℕ → Option Macro) (path text : List ℕ) (done : PpDone) (lexed : Lexed) → Lexes text lexed → AreInOrder 0 (length text) lexed.tokens → Preprocesses start path text done
+pub order_found : (start : List ℕ → Option Macro) (path text : List ℕ) (done : PpDone) (lexed : Lexed) → Lexes text lexed → AreInOrder 0 (length text) lexed.tokens → PreprocessesFrom start path text done
     → InOrder nowhere (length text) done.tokens
 order_found start path text done lexed lexes order p =
     let e : lexed ≡ p.lexed = one_lexed text lexed p.lexed lexes p.lexes in

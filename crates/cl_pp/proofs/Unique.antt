@@ -1,6 +1,7 @@
 -- A text comes to one thing.
 use Rattle.std.proofs.Common.{◌≡◌, ℕ, Bool, List, [], ◌∷◌, Option, Some, None, refl, sym, ap, subst, ◌∙◌}
 use Rattle.std.specs.Prelude.{MatchOption}
+use Rattle.cl_base.specs.declared.config.Settings.{Settings}
 use Rattle.cl_base.specs.declared.macros.Macro.{Macro}
 use Rattle.cl_base.specs.declared.macros.MacroNo.{MacroNo}
 use Rattle.cl_base.specs.declared.token.Kind.{Kind}
@@ -25,11 +26,13 @@ use Rattle.cl_macro.specs.Defining.{IsDefined, IsOver}
 use Rattle.cl_macro.specs.Rules.{Rules, TellsTokens}
 use Rattle.cl_macro.proofs.Plain.{one_expanded}
 use Rattle.cl_macro.proofs.Telling.{tells_none, tells_some}
+use Rattle.cl_macro.specs.Starting.{start_of}
+use Rattle.cl_macro.proofs.Starting.{one_given}
 use Rattle.cl_pp.specs.declared.done.PpDone.{PpDone}
 use Rattle.cl_pp.specs.Acts.{Act, Gives, Runs, Asks, Checks, Defines}
 use Rattle.cl_pp.specs.LineNumbers.{misfit}
 use Rattle.cl_pp.specs.Lines.{bad_if, bad_line, is_true, place_of}
-use Rattle.cl_pp.specs.Preprocessing.{Goes, Preprocesses, State, World, act_at, begin, behind, rules_in, world_of}
+use Rattle.cl_pp.specs.Preprocessing.{Goes, Preprocesses, PreprocessesFrom, State, World, act_at, begin, behind, rules_in, world_of}
 use Rattle.cl_pp.specs.Runs.{runs}
 use Rattle.cl_pp.specs.Standing.{macro_at, number_at, with_asked, with_faults, with_run}
 use Rattle.cl_pp.specs.Taking.{Becomes, IsChecked, IsCondition, IsDefinition, IsRead, IsRun, Takes, defined_by}
@@ -102,8 +105,8 @@ one_teller f g tf tg text = by_result (g text) (tg text)
     by_result None n = tells_none f text tf n
     by_result (Some k) h = tells_some f text k tf h
 
-pub one_preprocessed : (start : List ℕ → Option Macro) (path text : List ℕ) (x y : PpDone) → Preprocesses start path text x → Preprocesses start path text y → x ≡ y
-one_preprocessed start path text x y a b =
+one_from : (start : List ℕ → Option Macro) (path text : List ℕ) (x y : PpDone) → PreprocessesFrom start path text x → PreprocessesFrom start path text y → x ≡ y
+one_from start path text x y a b =
     let o : b.one_token ≡ a.one_token = λ i. λ (s : List ℕ). one_teller b.one_token a.one_token b.tells a.tells s i in
     let l : b.lexed ≡ a.lexed = one_lexed text b.lexed a.lexed b.lexes a.lexes in
     let g : b.groups ≡ a.groups = one_grouping a.lexed.tokens b.groups a.groups (subst (λ (z : Lexed). GroupsOf z.tokens b.groups) l b.grouped) a.grouped in
@@ -114,3 +117,8 @@ one_preprocessed start path text x y a b =
     let third : Goes (world_of path text a.lexed.faults a.one_token start) a.lexed.tokens (runs a.lexed.tokens a.groups.marks) (begin a.lexed.faults a.groups.faults) b.last =
     subst (λ (z : Groups). Goes (world_of path text a.lexed.faults a.one_token start) a.lexed.tokens (runs a.lexed.tokens z.marks) (begin a.lexed.faults z.faults) b.last) g second in
     a.is ∙ ap (λ (s : State). s.done) (one_goes (world_of path text a.lexed.faults a.one_token start) a.lexed.tokens (runs a.lexed.tokens a.groups.marks) (begin a.lexed.faults a.groups.faults) a.last b.last a.goes third) ∙ sym b.is
+
+pub one_preprocessed : (config : Settings) (path text : List ℕ) (x y : PpDone) → Preprocesses config path text x → Preprocesses config path text y → x ≡ y
+one_preprocessed config path text x y a b =
+    let same : a.macros ≡ b.macros = one_given config.defines a.macros b.macros a.given b.given in
+    one_from (start_of b.macros) path text x y (subst (λ (ms : List Macro). PreprocessesFrom (start_of ms) path text x) same a.preprocessed) b.preprocessed

@@ -7,6 +7,7 @@ use Rattle.cl_base.specs.declared.token.Diag.{Diag}
 use Rattle.cl_base.specs.declared.token.Fault.{Fault}
 use Rattle.cl_base.specs.declared.token.Lexed.{Lexed}
 use Rattle.cl_pp.specs.declared.done.PpDone.{PpDone}
+use Rattle.cl_base.specs.declared.config.Settings.{Settings}
 use Rattle.cl_base.specs.declared.macros.Macro.{Macro}
 use Rattle.cl_base.specs.Lines.{line_at}
 use Rattle.cl_lex.specs.Lexing.{Lexes}
@@ -14,6 +15,7 @@ use Rattle.cl_cond.specs.declared.mark.Mark.{Mark}
 use Rattle.cl_cond.specs.declared.mark.Groups.{Groups}
 use Rattle.cl_cond.specs.Sections.{GroupsOf}
 use Rattle.cl_macro.specs.Rules.{Rules, TellsTokens}
+use Rattle.cl_macro.specs.Starting.{Given, start_of}
 use Rattle.cl_macro.specs.Strings.{escaped, quoted}
 use Rattle.cl_pp.specs.Activity.{Passed, says}
 use Rattle.cl_pp.specs.Acts.{Act, act}
@@ -83,7 +85,7 @@ abbrev pub world_of : List ℕ → List ℕ → List Fault → (List ℕ → Opt
 world_of path text faults one_token start = record { path = path; text = text; begins = told faults; one_token = one_token; start = start }
 
 -- the lines of the text, gone over
-pub record Preprocesses (start : List ℕ → Option Macro) (path text : List ℕ) (done : PpDone) : Type 0 where
+pub record PreprocessesFrom (start : List ℕ → Option Macro) (path text : List ℕ) (done : PpDone) : Type 0 where
   pub one_token : List ℕ → Option Kind
   pub tells : TellsTokens one_token
   pub lexed : Lexed
@@ -93,3 +95,10 @@ pub record Preprocesses (start : List ℕ → Option Macro) (path text : List �
   pub last : State
   pub goes : Goes (world_of path text lexed.faults one_token start) lexed.tokens (runs lexed.tokens groups.marks) (begin lexed.faults groups.faults) last
   pub is : done ≡ last.done
+
+-- the text at a path, where the names have the macros before it begins that they are predefined with and that the settings give
+-- them (6.10.8)
+pub record Preprocesses (config : Settings) (path text : List ℕ) (done : PpDone) : Type 0 where
+  pub macros : List Macro
+  pub given : Given config.defines macros
+  pub preprocessed : PreprocessesFrom (start_of macros) path text done

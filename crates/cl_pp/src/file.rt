@@ -1,6 +1,6 @@
 //! Preprocesses a file.
 
-ghost use Rattle.std.specs.Prelude.{◌≡◌, ◌≤◌, ◌++◌, ℕ, List as TheList, Option, None, length, map, reverse, OnOk, IfOk};
+ghost use Rattle.std.specs.Prelude.{◌≡◌, ◌≤◌, ◌++◌, ℕ, List as TheList, Option, length, map, reverse, OnOk, IfOk};
 ghost use Rattle.cl_base.specs.declared.macros.Macro.{Macro as TheMacro};
 ghost use Rattle.cl_pp.specs.Lines.{line_of, spread_fault};
 ghost use Rattle.cl_pp.specs.Places.{InOrder, MarksLie, Within, nowhere};
@@ -16,7 +16,7 @@ use crate::run::runs;
 use crate::section::{Section, pass, top};
 use crate::stray::told;
 use crate::token::diag;
-use cl_base::{Diag, Fault, LineTable, List, Mem, Path, Token};
+use cl_base::{Config, Diag, Fault, LineTable, List, Mem, Path, Token};
 use cl_cond::{Mark, groups};
 use cl_lex::lex;
 use cl_macro::MacroTable;
@@ -42,8 +42,8 @@ use std::collections::BTreeMap;
 ///
 /// Nothing is looked for in a group that is skipped but where its sections begin and end. A text of more than
 /// 268,435,456 bytes is want of memory.
-pub fn preprocess(alloc: Global, path: &Path, text: &[u8]) -> Mem<PpDone>
-    ensures done { IfOk result (λ done. Preprocesses (λ name. None) path.now text.now done) }
+pub fn preprocess(alloc: Global, path: &Path, text: &[u8], config: &Config) -> Mem<PpDone>
+    ensures done { IfOk result (λ done. Preprocesses config.now path.now text.now done) }
     ensures order { IfOk result (λ done. InOrder nowhere (length text.now) done.tokens) }
 {
     let lexed = lex(alloc, text)?;
@@ -52,7 +52,7 @@ pub fn preprocess(alloc: Global, path: &Path, text: &[u8]) -> Mem<PpDone>
     let told = told(alloc, lexed.faults.as_slice())?;
     let runs = runs(alloc, lexed.tokens.as_slice(), groups.marks.as_slice())?;
     let faults = first_faults(alloc, lexed.faults.as_slice(), groups.faults.as_slice())?;
-    let mut table = MacroTable::new(alloc);
+    let mut table = MacroTable::start(alloc, config)?;
     let mut made = Made {
         done: PpDone {
             tokens: List::new(alloc),

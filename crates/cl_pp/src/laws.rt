@@ -1,7 +1,7 @@
 //! What holds of every text.
 
-ghost use Rattle.std.specs.Prelude.{◌≡◌, ◌&&◌, ℕ, Bool, List, ◌∷◌, ◌++◌, Option};
-ghost use Rattle.cl_base.specs.declared.macros.Macro.{Macro};
+ghost use Rattle.std.specs.Prelude.{◌≡◌, ◌&&◌, ℕ, Bool, List, ◌∷◌, ◌++◌};
+ghost use Rattle.cl_base.specs.declared.config.Settings.{Settings};
 ghost use Rattle.cl_pp.specs.declared.done.PpDone.{PpDone};
 ghost use Rattle.cl_base.specs.declared.token.Token.{Token};
 ghost use Rattle.cl_cond.specs.declared.mark.Mark.{Mark};
@@ -9,14 +9,14 @@ ghost use Rattle.cl_pp.specs.Activity.{Active, Passed, Question, says};
 ghost use Rattle.cl_pp.specs.Branching.{Arm, IsSection, IsWhole, behind, laid, none_held};
 ghost use Rattle.cl_pp.specs.Preprocessing.{Goes, Preprocesses, State, Through, World};
 
-/// A text comes to one list of tokens, with one list of each kind beside it.
+/// A text comes to one list of tokens under the same settings, with one list of each kind beside it.
 pub fn one_preprocessing()
-    ensures { (start : List ℕ → Option Macro) (path text : List ℕ) (x y : PpDone) → Preprocesses start path text x → Preprocesses start path text y → x ≡ y }
+    ensures { (config : Settings) (path text : List ℕ) (x y : PpDone) → Preprocesses config path text x → Preprocesses config path text y → x ≡ y }
 {}
 
 /// Every text comes to something.
 pub fn some_preprocessing()
-    ensures { (start : List ℕ → Option Macro) (path text : List ℕ) → (done : PpDone) × Preprocesses start path text done }
+    ensures { (config : Settings) (path text : List ℕ) → (done : PpDone) × Preprocesses config path text done }
 {}
 
 /// Going over lines and then others is going over both.

@@ -2,6 +2,8 @@ use Rattle.std.proofs.Common.{List, None, ◌++◌, refl, sym, subst, ◌∙◌,
 use Rattle.std.specs.Ordering.{nat_cmp}
 use Rattle.std.specs.BTreeMap.{get}
 use Rattle.cl_base.specs.declared.token.Token.{Token}
+use Rattle.cl_base.specs.declared.macros.Macro.{Macro}
+use Rattle.cl_macro.specs.Starting.{start_of}
 use Rattle.cl_macro.proofs.Teller.{some_teller}
 use Rattle.cl_pp.specs.declared.done.PpDone.{PpDone}
 use Rattle.cl_pp.specs.Lines.{spread_fault}
@@ -21,12 +23,14 @@ go_over-requires-clause-lie c =
     runs_found c.in_ok-lexed.lexed.tokens c.as_slice.result.now c.as_slice-3.result.now c.as_slice-7.result.now c.in_ok-groups.groups c.as_slice-4.result.now _ c.as_slice-8.result.now
     c.as_slice.ensures.value c.as_slice-3.ensures.value c.as_slice-7.ensures.value c.as_slice-4.ensures.value c.in_ok-runs.ensures c.as_slice-8.ensures.value c.in_ok-groups.ensures
 
-done_of : goal.returns-clause-done
-done_of c =
+pub returns-clause-done : goal.returns-clause-done
+returns-clause-done c =
     let teller = some_teller in
-    let old : PpDone = record { tokens = c.new-2.result; events = c.new-3.result; uses = c.new-4.result; looked = c.new-5.result; faults = c.in_ok-faults.faults } in
-    let w : World = world_of c.args.path.now c.args.text.now c.in_ok-lexed.lexed.faults teller.0 (λ name. None) in
-    found (λ name. None) c.args.path.now c.args.text.now teller.0 c.in_ok-lexed.lexed c.in_ok-groups.groups c.as_slice.result.now c.as_slice-3.result.now c.as_slice-7.result.now c.as_slice-4.result.now _ c.as_slice-8.result.now old _
+    let first = c.in_ok-table.ensures in
+    let start : List ℕ → Option Macro = start_of first.macros in
+    let w : World = world_of c.args.path.now c.args.text.now c.in_ok-lexed.lexed.faults teller.0 start in
+    record { macros = first.macros; given = first.given; preprocessed =
+    found start c.args.path.now c.args.text.now teller.0 c.in_ok-lexed.lexed c.in_ok-groups.groups c.as_slice.result.now c.as_slice-3.result.now c.as_slice-7.result.now c.as_slice-4.result.now _ c.as_slice-8.result.now _ _
     teller.1 c.in_ok-lexed.ensures.lexes c.in_ok-groups.ensures
     c.as_slice.ensures.value c.as_slice-3.ensures.value c.as_slice-7.ensures.value c.as_slice-4.ensures.value c.in_ok-runs.ensures c.as_slice-8.ensures.value
     (λ i. record {
@@ -43,10 +47,7 @@ done_of c =
       tells = teller.1;
     })
     (subst (λ (ts : List Token). Within (length c.args.text.now) ts) (sym c.as_slice-7.ensures.value) (within_order 0 (length c.args.text.now) c.in_ok-lexed.lexed.tokens c.in_ok-lexed.ensures.order))
-    (keeps_first c.new-table.result old c.new-3.ensures (c.new-table.ensures.macros (λ name. None)) (c.new-table.ensures.events (λ name. None)) c.new-table.ensures.count))
-
-pub returns-clause-done : goal.returns-clause-done
-returns-clause-done c = done_of c
+    (keeps_first start c.in_ok-table.table _ c.new-3.ensures (first.macros_are (λ name. None)) first.unnumbered first.count)) }
 
 pub returns-clause-order : goal.returns-clause-order
-returns-clause-order c = order_found (λ name. None) c.args.path.now c.args.text.now _ c.in_ok-lexed.lexed c.in_ok-lexed.ensures.lexes c.in_ok-lexed.ensures.order (done_of c)
+returns-clause-order c = order_found (start_of (returns-clause-done c).macros) c.args.path.now c.args.text.now _ c.in_ok-lexed.lexed c.in_ok-lexed.ensures.lexes c.in_ok-lexed.ensures.order (returns-clause-done c).preprocessed
