@@ -1,5 +1,5 @@
 -- What a query is answered with. The definition is opaque: what stands above this crate can't look into it.
-use Rattle.std.specs.Prelude.{◌≡◌, ℕ, List, Option, None}
+use Rattle.std.specs.Prelude.{◌≡◌, ℕ, List}
 use Rattle.std.specs.Coded.{Coded-set, coded_list}
 use mathlib.Core.Path.{sym, ap, subst, ◌∙◌}
 use mathlib.Core.Logic.{∥∥₁_elim, ∥∥₁_prop}
@@ -8,7 +8,6 @@ use Rattle.cl_base.specs.contracts.answer.Symbol.{the_row}
 use Rattle.cl_base.specs.declared.answer.Answer.{Answer}
 use Rattle.cl_base.specs.declared.answer.Answer.TheVariants.{Symbols as Listed}
 use Rattle.cl_pp.specs.declared.done.PpDone.{PpDone}
-use Rattle.cl_base.specs.declared.macros.Macro.{Macro}
 use Rattle.cl_base.specs.declared.token.PpToken.{PpToken}
 use Rattle.cl_pp.specs.Preprocessing.{Preprocesses}
 use Rattle.cl_parse.specs.declared.item.Item.{Item}
@@ -19,21 +18,17 @@ use Rattle.cl_base.specs.declared.config.Settings.{Settings}
 use Rattle.cl_headers.specs.Headers.{Headers}
 use Rattle.cl_query.specs.Symbols.{symbols_in}
 
--- no name has a macro before the text
-abbrev pub no_macros : List ℕ → Option Macro
-no_macros name = None
-
--- the symbols of a text are those of its items, which are those of its tokens after preprocessing
-pub record AreSymbolsOf (path text : List ℕ) (symbols : List Symbol) : Type 0 where
+-- the symbols of a text are those of its items, which are those of its tokens after preprocessing under these settings
+pub record AreSymbolsOf (config : Settings) (path text : List ℕ) (symbols : List Symbol) : Type 0 where
   pub done : PpDone
   pub items : List Item
-  pub preprocessed : Preprocesses no_macros path text done
+  pub preprocessed : Preprocesses config path text done
   pub parses : ItemsOf done.tokens items
   pub listed : symbols ≡ symbols_in text done.tokens items
 
 -- the answer of a query about the text at a path, under these settings and with these headers
 pub AnswerOf : Query → Settings → Headers → List ℕ → List ℕ → Answer → Type 0
-AnswerOf Symbols config headers path text (Listed symbols) = ∥ AreSymbolsOf path text symbols ∥₁
+AnswerOf Symbols config headers path text (Listed symbols) = ∥ AreSymbolsOf config path text symbols ∥₁
 
 -- it holds in one way at most
 pub AnswerOf-prop : (kind : Query) (config : Settings) (headers : Headers) (path text : List ℕ) (answer : Answer) → IsProp (AnswerOf kind config headers path text answer)
@@ -51,27 +46,27 @@ unfolding NeedsOf
 NeedsOf-prop Symbols config headers path text needed = λ x y. absurd x
 
 pub answer_of_symbols : (config : Settings) (headers : Headers) (path text : List ℕ) (done : PpDone) (items : List Item) (symbols : List Symbol)
-    → Preprocesses no_macros path text done → ItemsOf done.tokens items → symbols ≡ symbols_in text done.tokens items → AnswerOf Symbols config headers path text (Listed symbols)
+    → Preprocesses config path text done → ItemsOf done.tokens items → symbols ≡ symbols_in text done.tokens items → AnswerOf Symbols config headers path text (Listed symbols)
 unfolding AnswerOf
 answer_of_symbols config headers path text done items symbols preprocessed parses listed =
     ∣ record { done = done; items = items; preprocessed = preprocessed; parses = parses; listed = listed } ∣₁
 
--- neither the settings nor the headers matter, since no directive is followed into another file
-pub answer_of_any : (kind : Query) (config other : Settings) (headers others : Headers) (path text : List ℕ) (answer : Answer)
-    → AnswerOf kind config headers path text answer → AnswerOf kind other others path text answer
+-- the headers do not matter, since no directive is followed into another file
+pub answer_of_any : (kind : Query) (config : Settings) (headers others : Headers) (path text : List ℕ) (answer : Answer)
+    → AnswerOf kind config headers path text answer → AnswerOf kind config others path text answer
 unfolding AnswerOf
-answer_of_any Symbols config other headers others path text (Listed symbols) a = a
+answer_of_any Symbols config headers others path text (Listed symbols) a = a
 
 -- where a text has one list of preprocessed tokens, and they have one list of items, it has one list of symbols
-module _ (one_done : (start : List ℕ → Option Macro) (path text : List ℕ) (x y : PpDone) → Preprocesses start path text x → Preprocesses start path text y → x ≡ y)
+module _ (one_done : (config : Settings) (path text : List ℕ) (x y : PpDone) → Preprocesses config path text x → Preprocesses config path text y → x ≡ y)
     (one_parse : (tokens : List PpToken) (xs ys : List Item) → ItemsOf tokens xs → ItemsOf tokens ys → xs ≡ ys) where
-  one_list : (path text : List ℕ) (xs ys : List Symbol) → AreSymbolsOf path text xs → AreSymbolsOf path text ys → xs ≡ ys
-  one_list path text xs ys a b =
-      let done : a.done ≡ b.done = one_done no_macros path text a.done b.done a.preprocessed b.preprocessed in
+  one_list : (config : Settings) (path text : List ℕ) (xs ys : List Symbol) → AreSymbolsOf config path text xs → AreSymbolsOf config path text ys → xs ≡ ys
+  one_list config path text xs ys a b =
+      let done : a.done ≡ b.done = one_done config path text a.done b.done a.preprocessed b.preprocessed in
       let items : a.items ≡ b.items = one_parse b.done.tokens a.items b.items (subst (λ (d : PpDone). ItemsOf d.tokens a.items) done a.parses) b.parses in
       a.listed ∙ ap (λ (d : PpDone). symbols_in text d.tokens a.items) done ∙ ap (symbols_in text b.done.tokens) items ∙ sym b.listed
 
   pub one_answer_by : (kind : Query) (config : Settings) (headers : Headers) (path text : List ℕ) (x y : Answer) → AnswerOf kind config headers path text x → AnswerOf kind config headers path text y → x ≡ y
   unfolding AnswerOf
   one_answer_by Symbols config headers path text (Listed xs) (Listed ys) a b =
-      ap Listed (∥∥₁_elim a (Coded-set (coded_list the_row.coded) xs ys) (λ p. ∥∥₁_elim b (Coded-set (coded_list the_row.coded) xs ys) (λ q. one_list path text xs ys p q)))
+      ap Listed (∥∥₁_elim a (Coded-set (coded_list the_row.coded) xs ys) (λ p. ∥∥₁_elim b (Coded-set (coded_list the_row.coded) xs ys) (λ q. one_list config path text xs ys p q)))

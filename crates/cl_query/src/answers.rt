@@ -17,7 +17,7 @@ pub(crate) fn answer_of(alloc: Global, job: &Job) -> Mem<Answer>
     match job.kind {
         Query::Symbols => {
             let text = job.text.bytes();
-            let done = preprocess(alloc, &job.path, text)?;
+            let done = preprocess(alloc, &job.path, text, &job.config)?;
             let items = items(alloc, done.tokens.as_slice())?;
             let symbols = symbols(alloc, text, done.tokens.as_slice(), items.as_slice())?;
             Ok(Answer::Symbols(symbols))

@@ -181,7 +181,8 @@ fn deep_sections_and_parentheses(rt: HostRuntime) -> Result<(), Fail> {
 
 fn done_of(alloc: Global, text: &[u8]) -> Mem<PpDone> {
     let path = Path::new(alloc, "/a.c")?;
-    let done = preprocess(alloc, &path, text)?;
+    let config = Config::new(alloc, List::new(alloc), List::new(alloc))?;
+    let done = preprocess(alloc, &path, text, &config)?;
     Ok(done)
 }
 
