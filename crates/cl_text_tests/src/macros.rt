@@ -1,10 +1,10 @@
 use crate::replaced::REPLACED;
 use cl_base::{
-    BodyToken, Duplicate, EmptyBase, LineTable, List, Macro, Mem, Memory, Path, PpToken, Span,
-    Token,
+    BodyToken, Config, Define, Duplicate, EmptyBase, LineTable, List, Macro, Mem, Memory, Name,
+    Path, PpToken, Span, Text, Token,
 };
 use cl_lex::lex;
-use cl_macro::{Defined, Expanded, MacroTable};
+use cl_macro::{Defined, Expanded, MacroTable, one_start, some_start};
 use std::alloc::Global;
 use std::mem;
 use std::test::Fail;
@@ -298,6 +298,100 @@ fn faults_uses_and_white_space(rt: HostRuntime) -> Result<(), Fail> {
         let found = told_of(alloc, &all)?;
         assert!(rt; found.as_str() == told, "{found} for {text}");
     }
+    Ok(())
+}
+
+/// A config of the defines of these lines: a name, and behind a space its text.
+fn config_of(alloc: Global, lines: &str) -> Mem<Config> {
+    let mut defines = List::new(alloc);
+    for line in lines.split("\n") {
+        let (name, text) = line.split_once(" ").unwrap_or((line, ""));
+        defines.push(Define {
+            name: Name::new(alloc, name.as_bytes())?,
+            text: Text::new(alloc, text.as_bytes())?,
+        })?;
+    }
+    let config = Config::new(alloc, List::new(alloc), defines)?;
+    Ok(config)
+}
+
+/// Defines of a config, a text, and its tokens after them. First what is predefined; then defines of one name, defines that
+/// no line may make, and texts that look like parameters.
+const STARTS: [(&str, &str, &str); 16] = [
+    (
+        "a",
+        "__STDC__ __STDC_HOSTED__ __STDC_VERSION__ __STDC_NO_COMPLEX__",
+        "1 1 201112L 1",
+    ),
+    ("a", "__DATE__ __TIME__", "\"Jan  1 1970\" \"00:00:00\""),
+    ("a", "__FILE__\n__LINE__\n__LINE__", "\"/a\\\"b.c\" 2 3"),
+    (
+        "a",
+        "__STDC_IEC_559__ __func__",
+        "__STDC_IEC_559__ __func__",
+    ),
+    ("a 1\nb 2\na 3", "a b c", "3 2 c"),
+    ("a 1\na", "[a]", "[]"),
+    ("a b\nb a + 1", "a b", "a + 1 b + 1"),
+    ("l __LINE__ __FILE__", "\nl", "2 \"/a\\\"b.c\""),
+    ("a 1\na ## 2", "a", "1"),
+    ("a ## 2\na 1", "a", "1"),
+    ("a 1\na 2 ##\nb __VA_ARGS__", "a b", "1 b"),
+    (
+        "__LINE__ 7\n__STDC__ 2\n__FILE__ 3\ndefined 1",
+        "__LINE__ __STDC__ __FILE__ defined",
+        "1 1 \"/a\\\"b.c\" defined",
+    ),
+    ("f (x) x", "f(2)", "(x) x(2)"),
+    ("f(x) x", "f(2)", "f(2)"),
+    ("a  # x /* */ ## y", "a z", "# xy z"),
+    ("a 'x", "a", "'x"),
+];
+
+/// No macro of the start has an event, and the next event is number 0.
+#[test]
+fn before_a_text_begins(rt: HostRuntime) -> Result<(), Fail> {
+    let alloc = rt.alloc();
+    for (defines, text, wanted) in STARTS {
+        let config = config_of(alloc, defines)?;
+        let table = MacroTable::start(alloc, &config)?;
+        let all = expansion(alloc, &table, text.as_bytes())?;
+        let found = shown(alloc, &all)?;
+        assert!(rt;
+            found.as_str() == wanted,
+            "{found} for {text} after {defines}"
+        );
+        let told = told_of(alloc, &all)?;
+        assert!(rt;
+            told.as_str() == "" && table.events() == 0,
+            "{told} for {text}"
+        );
+    }
+    one_start();
+    some_start();
+    Ok(())
+}
+
+/// A start has as many macros as its config defines.
+#[test]
+fn many_defines(rt: HostRuntime) -> Result<(), Fail> {
+    let alloc = rt.alloc();
+    let mut lines = String::new(alloc);
+    for i in 0..1_000u32 {
+        let one = format!(in alloc; "x{i} {i}\n")?;
+        lines.push_str(one.as_str())?;
+    }
+    lines.push_str("x7 y")?;
+    let config = config_of(alloc, lines.as_str())?;
+    let mut table = MacroTable::start(alloc, &config)?;
+    let all = expansion(alloc, &table, b"x0 x7 x500 x999 x1000".as_slice())?;
+    let found = shown(alloc, &all)?;
+    assert!(rt; found.as_str() == "0 y 500 999 x1000", "{found}");
+    let name = Name::new(alloc, b"x500")?;
+    assert!(rt; table.event(alloc, &EmptyBase, &name)?.is_none());
+    table.undef(alloc, &name)?;
+    let event = table.event(alloc, &EmptyBase, &name)?;
+    assert!(rt; matches!(event, Some(no) if no.0 == 0) && table.events() == 1);
     Ok(())
 }
 
