@@ -1,4 +1,4 @@
-use cl_base::{Mem, Path};
+use cl_base::{Config, List, Mem, Path};
 use cl_pp::{PpDone, preprocess};
 use std::alloc::Global;
 use std::test::Fail;

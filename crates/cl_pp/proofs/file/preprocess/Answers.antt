@@ -1,4 +1,4 @@
-use Rattle.std.proofs.Common.{List, None, ◌++◌, refl, sym, subst, ◌∙◌, length, map}
+use Rattle.std.proofs.Common.{ℕ, List, Option, None, ◌++◌, refl, sym, subst, ◌∙◌, length, map}
 use Rattle.std.specs.Ordering.{nat_cmp}
 use Rattle.std.specs.BTreeMap.{get}
 use Rattle.cl_base.specs.declared.token.Token.{Token}
