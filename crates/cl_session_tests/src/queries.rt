@@ -19,6 +19,11 @@ fn lists_the_symbols(rt: HostRuntime) -> Result<(), Memory> {
         ),
         ("int x;\n", "13 x 0:0-0:6 0:4-0:5 0;"),
         ("int x; int y", "13 x 0:0-0:6 0:4-0:5 0;"),
+        ("#define M int m;\nM\n", "13 m 1:0-1:1 1:0-1:1 0;"),
+        (
+            "#define D(a, b) int a; int b;\nD(x,\ny) int z;",
+            "13 x 1:0-2:2 1:0-2:2 0;13 y 1:0-2:2 1:0-2:2 0;13 z 2:3-2:9 2:7-2:8 0;",
+        ),
         (
             "#if 0\nint a;\n#else\nint b;\n#endif\n",
             "13 b 3:0-3:6 3:4-3:5 0;",
