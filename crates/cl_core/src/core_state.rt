@@ -107,6 +107,7 @@ impl Core {
     pub fn into_journal(self) -> List<Entry>
         ensures { result ≡ journal_of self }
     {
-        self.state.journal
+        let state = self.state;
+        state.journal
     }
 }

@@ -174,6 +174,7 @@ impl Pending {
                 let (_, waiting) = failed.value;
                 self.ids.remove(&waiting.id);
                 self.documents.remove(&waiting.job.path, message);
+                drop(waiting);
                 Err(Memory)
             }
         }
@@ -186,6 +187,7 @@ impl Pending {
         if let Some(waiting) = self.waiting.remove(&message) {
             self.ids.remove(&waiting.id);
             self.documents.remove(&waiting.job.path, message);
+            drop(waiting);
         }
     }
 
