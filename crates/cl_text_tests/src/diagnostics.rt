@@ -1,6 +1,5 @@
 use cl_base::{Diag, Duplicate, List, Mem, Name, Span};
-use cl_diag::{one_order, ordered, severity_of, text_of};
-use cl_lossy::shown;
+use cl_diag::ordered;
 use std::alloc::Global;
 use std::test::Fail;
 
@@ -70,7 +69,6 @@ fn order(rt: HostRuntime) -> Result<(), Fail> {
     }
     let none = ordered(alloc, List::new(alloc))?;
     assert!(rt; none.is_empty());
-    one_order();
     Ok(())
 }
 
@@ -86,49 +84,5 @@ fn many_in_order(rt: HostRuntime) -> Result<(), Fail> {
     let all = ordered(alloc, diags)?;
     assert!(rt; all.len() == 2_000, "of {}", all.len());
     assert!(rt; all.get(0).is_some_and(|first| first.at.from == 1));
-    Ok(())
-}
-
-#[test]
-fn texts(rt: HostRuntime) -> Result<(), Fail> {
-    let alloc = rt.alloc();
-    let rows = [
-        (1, "", "unterminated comment", 1),
-        (2, "", "missing closing quote", 1),
-        (7, "", "extra tokens after directive", 2),
-        (8, "x", "invalid include", 1),
-        (15, "", "invalid #if expression", 1),
-        (16, "M", "macro 'M' redefined", 1),
-        (17, "", "macro expansion too large", 1),
-        (18, "", "invalid macro definition", 1),
-        (21, "", "pasting gives no token", 1),
-        (23, "", "invalid #line", 1),
-        (0, "", "", 1),
-        (24, "", "", 1),
-    ];
-    for (number, name, wanted, severity) in rows {
-        let one = diag(alloc, &(0, 0, number, 1, name))?;
-        let said = text_of(alloc, &one)?;
-        assert!(rt; said.as_str() == wanted, "{said}");
-        assert!(rt; severity_of(number) == severity, "{said}");
-    }
-    let name = Name::new(alloc, b"a\xff\xe2\x82z".as_slice())?;
-    let at = Span {
-        file: 0,
-        from: 0,
-        to: 1,
-    };
-    let one = Diag {
-        number: 16,
-        at,
-        name: Some(name),
-    };
-    let said = text_of(alloc, &one)?;
-    assert!(rt;
-        said.as_str() == "macro 'a\u{fffd}\u{fffd}\u{fffd}z' redefined",
-        "{said}"
-    );
-    let said = shown(alloc, b"\xc3\xa9\x80".as_slice())?;
-    assert!(rt; said.as_str() == "\u{e9}\u{fffd}", "{said}");
     Ok(())
 }

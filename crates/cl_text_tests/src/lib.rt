@@ -1,13 +1,11 @@
-//! Tests of the crates that read a text: ground, tokens, macro replacement, conditions, preprocessing. They stand in a
-//! crate of their own, since a crate with tests is proved twice.
+//! Tests of the crates that read a text: ground, tokens, macro replacement, conditions, preprocessing: large and deep inputs,
+//! copies, orders, laws. Tables of cases stand in `cl_text_cases`.
 #![tactic(auto)]
 
 #[cfg(test)]
-mod conditions;
-#[cfg(test)]
 mod copies;
 #[cfg(test)]
-mod definitions;
+mod deep;
 #[cfg(test)]
 mod diagnostics;
 #[cfg(test)]
@@ -15,18 +13,10 @@ mod header_sources;
 #[cfg(test)]
 mod large;
 #[cfg(test)]
-mod lexing;
+mod laws;
 #[cfg(test)]
 mod macros;
 #[cfg(test)]
-mod one_tokens;
-#[cfg(test)]
 mod places;
-#[cfg(test)]
-mod preprocessing;
-#[cfg(test)]
-mod replaced;
-#[cfg(test)]
-mod sections;
 #[cfg(test)]
 mod values;

@@ -1,75 +1,35 @@
-use crate::replaced::REPLACED;
+//! Macros that come and go, and runs that are long or deep.
+
 use cl_base::{
-    BodyToken, Config, Define, Duplicate, EmptyBase, LineTable, List, Macro, Mem, Memory, Name,
-    Path, PpToken, Span, Text, Token,
+    Config, Define, Duplicate, EmptyBase, LineTable, List, Macro, Mem, Name, Path, PpToken, Span,
+    Text,
 };
+use cl_define::{object_like, predefined, read_define};
 use cl_lex::lex;
-use cl_macro::{Defined, Expanded, MacroTable, one_start, some_start};
+use cl_macro::{Defined, Expanded, MacroTable};
 use std::alloc::Global;
-use std::mem;
 use std::test::Fail;
 
-/// Definitions, a text, its tokens with their white space, and what is told: a fault by its number and place, and a use
-/// by its place and the number of tokens before its outermost invocation.
-type ToldRow<'a> = (&'a str, &'a str, &'a str, &'a str);
+const NAME_PLACE: Span = Span {
+    file: 3,
+    from: 8,
+    to: 9,
+};
 
-/// The macro of the tokens of a valid definition.
-fn macro_of(alloc: Global, line: &[Token]) -> Mem<Macro> {
-    let Some((name, behind)) = line.split_first() else {
-        return Err(Memory);
-    };
-    let mut names = List::new(alloc);
-    let mut body = List::new(alloc);
-    let mut function = false;
-    let mut variadic = false;
-    let mut in_params = false;
-    for (i, token) in behind.iter().enumerate() {
-        let text = token.text.bytes();
-        if i == 0 && !token.space && text == b"(".as_slice() {
-            function = true;
-            in_params = true;
-            continue;
-        }
-        if !in_params {
-            body.push(BodyToken {
-                kind: token.kind,
-                text: token.text.duplicate(alloc)?,
-                space: token.space && !body.is_empty(),
-            })?;
-            continue;
-        }
-        if text == b")".as_slice() {
-            in_params = false;
-        } else if text == b"...".as_slice() {
-            variadic = true;
-        } else if text != b",".as_slice() {
-            names.push(token.text.duplicate(alloc)?)?;
-        }
-    }
-    Ok(Macro {
-        name: name.text.duplicate(alloc)?,
-        params: if function { Some(names) } else { None },
-        variadic,
-        body,
-        place: None,
-    })
+/// The macro of a line behind its `define`.
+fn read(alloc: Global, line: &str) -> Mem<Option<Macro>> {
+    let lexed = lex(alloc, line.as_bytes())?;
+    read_define(alloc, lexed.tokens.as_slice(), NAME_PLACE)
 }
 
-/// The table of these definitions.
+/// The table of these definitions, one a line.
 fn table_of(alloc: Global, defines: &str) -> Mem<MacroTable> {
     let mut table = MacroTable::new(alloc);
-    let lexed = lex(alloc, defines.as_bytes())?;
-    let mut line: List<Token> = List::new(alloc);
-    for token in lexed.tokens.as_slice() {
-        if token.first && !line.is_empty() {
-            let whole = mem::replace(&mut line, List::new(alloc));
-            let mac = macro_of(alloc, whole.as_slice())?;
-            table.define(alloc, &EmptyBase, mac)?;
+    for line in defines.split("\n") {
+        if let Some(mac) = read(alloc, line)? {
+            let _how = table.define(alloc, &EmptyBase, mac)?;
         }
-        line.push(token.duplicate(alloc)?)?;
     }
-    let mac = macro_of(alloc, line.as_slice())?;
-    table.define(alloc, &EmptyBase, mac)?;
     Ok(table)
 }
 
@@ -113,16 +73,6 @@ fn shown(alloc: Global, all: &Expanded) -> Mem<String> {
     }
     let text = String::from_utf8_lossy(alloc, shown.as_slice())?;
     Ok(text)
-}
-
-/// The spellings of tokens, one a line.
-fn spellings(alloc: Global, tokens: &[PpToken]) -> Mem<Vec<u8>> {
-    let mut all = Vec::new(alloc);
-    for token in tokens {
-        all.extend_from_slice(token.text.bytes())?;
-        all.push(b'\n')?;
-    }
-    Ok(all)
 }
 
 /// The faults, and then the uses.
@@ -211,13 +161,17 @@ fn definitions_come_and_go(rt: HostRuntime) -> Result<(), Fail> {
     Ok(())
 }
 
-/// What a definition is, after these.
-fn defined(alloc: Global, defines: &str, line: &str) -> Mem<Defined> {
+/// What a definition is after these: new (0), the same (1) or another in its place (2); 3 for none.
+fn defined(alloc: Global, defines: &str, line: &str) -> Mem<u8> {
     let mut table = table_of(alloc, defines)?;
-    let lexed = lex(alloc, line.as_bytes())?;
-    let mac = macro_of(alloc, lexed.tokens.as_slice())?;
-    let answer = table.define(alloc, &EmptyBase, mac)?;
-    Ok(answer)
+    let Some(mac) = read(alloc, line)? else {
+        return Ok(3);
+    };
+    Ok(match table.define(alloc, &EmptyBase, mac)? {
+        Defined::New => 0,
+        Defined::Same => 1,
+        Defined::Replaced { old: _ } => 2,
+    })
 }
 
 #[test]
@@ -233,70 +187,8 @@ fn what_a_definition_is(rt: HostRuntime) -> Result<(), Fail> {
         ("v(...) a", "v(a) a", 2),
     ];
     for (defines, line, wanted) in rows {
-        let found = match defined(alloc, defines, line)? {
-            Defined::New => 0,
-            Defined::Same => 1,
-            Defined::Replaced { old: _ } => 2,
-        };
+        let found = defined(alloc, defines, line)?;
         assert!(rt; found == wanted, "{line} after {defines}");
-    }
-    Ok(())
-}
-
-#[test]
-fn faults_uses_and_white_space(rt: HostRuntime) -> Result<(), Fail> {
-    let alloc = rt.alloc();
-    let rows: [ToldRow<'_>; 12] = [
-        ("f(a) a", "x f(1, 2) y", "x f(1, 2) y", "!19@2-3 "),
-        ("f(a) a", "x f(1 y", "x f(1 y", "!20@2-3 "),
-        (
-            "f(a) [a]\ng(a) a",
-            "f(g(1,2) 3)",
-            "[g(1,2) 3]",
-            "!19@0-11 !19@0-11 0-1:0 ",
-        ),
-        (
-            "f(a,b) a##b",
-            "f(<,x) f(1,2)",
-            "<x 12",
-            "!21@0-6 0-1:0 7-8:2 ",
-        ),
-        ("f(a,b) a ## b", "f( + , - )", "+-", "!21@0-10 0-1:0 "),
-        (
-            "l __LINE__",
-            "l\n\nl\r\nl",
-            "__LINE__ __LINE__ __LINE__",
-            "0-1:0 3-4:1 6-7:2 ",
-        ),
-        (
-            "__LINE__\n__FILE__\nl __LINE__ __FILE__",
-            "__LINE__\n[__FILE__]\nl",
-            "1 [\"/a\\\"b.c\"] 3 \"/a\\\"b.c\"",
-            "0-8:0 10-18:2 20-21:4 ",
-        ),
-        (
-            "x 1\nf(a) a+a",
-            "[f(x)] f ( x )",
-            "[1+1] 1+1",
-            "1-2:1 3-4:1 7-8:5 11-12:5 ",
-        ),
-        ("f(a) a\nh f(", "h 1) 2", "1 2", "0-1:0 "),
-        ("f(a) -a", "f(f(f(1)))", "---1", "0-1:0 2-3:0 4-5:0 "),
-        (
-            "e\nf(a) [ a]",
-            "x e y f() f(e)",
-            "x y [] []",
-            "2-3:1 6-7:2 10-11:4 12-13:4 ",
-        ),
-        ("v(a,b,...) a", "v() v(1,2)", "v() 1", "!19@0-1 4-5:3 "),
-    ];
-    for (defines, text, tokens, told) in rows {
-        let table = table_of(alloc, defines)?;
-        let all = expansion(alloc, &table, text.as_bytes())?;
-        let found = shown(alloc, &all)?;
-        assert!(rt; found.as_str() == tokens, "{found} for {text}");
-        let found = told_of(alloc, &all)?;
-        assert!(rt; found.as_str() == told, "{found} for {text}");
     }
     Ok(())
 }
@@ -313,63 +205,6 @@ fn config_of(alloc: Global, lines: &str) -> Mem<Config> {
     }
     let config = Config::new(alloc, List::new(alloc), defines)?;
     Ok(config)
-}
-
-/// Defines of a config, a text, and its tokens after them. First what is predefined; then defines of one name, defines that
-/// no line may make, and texts that look like parameters.
-const STARTS: [(&str, &str, &str); 16] = [
-    (
-        "a",
-        "__STDC__ __STDC_HOSTED__ __STDC_VERSION__ __STDC_NO_COMPLEX__",
-        "1 1 201112L 1",
-    ),
-    ("a", "__DATE__ __TIME__", "\"Jan  1 1970\" \"00:00:00\""),
-    ("a", "__FILE__\n__LINE__\n__LINE__", "\"/a\\\"b.c\" 2 3"),
-    (
-        "a",
-        "__STDC_IEC_559__ __func__",
-        "__STDC_IEC_559__ __func__",
-    ),
-    ("a 1\nb 2\na 3", "a b c", "3 2 c"),
-    ("a 1\na", "[a]", "[]"),
-    ("a b\nb a + 1", "a b", "a + 1 b + 1"),
-    ("l __LINE__ __FILE__", "\nl", "2 \"/a\\\"b.c\""),
-    ("a 1\na ## 2", "a", "1"),
-    ("a ## 2\na 1", "a", "1"),
-    ("a 1\na 2 ##\nb __VA_ARGS__", "a b", "1 b"),
-    (
-        "__LINE__ 7\n__STDC__ 2\n__FILE__ 3\ndefined 1",
-        "__LINE__ __STDC__ __FILE__ defined",
-        "1 1 \"/a\\\"b.c\" defined",
-    ),
-    ("f (x) x", "f(2)", "(x) x(2)"),
-    ("f(x) x", "f(2)", "f(2)"),
-    ("a  # x /* */ ## y", "a z", "# xy z"),
-    ("a 'x", "a", "'x"),
-];
-
-/// No macro of the start has an event, and the next event is number 0.
-#[test]
-fn before_a_text_begins(rt: HostRuntime) -> Result<(), Fail> {
-    let alloc = rt.alloc();
-    for (defines, text, wanted) in STARTS {
-        let config = config_of(alloc, defines)?;
-        let table = MacroTable::start(alloc, &config)?;
-        let all = expansion(alloc, &table, text.as_bytes())?;
-        let found = shown(alloc, &all)?;
-        assert!(rt;
-            found.as_str() == wanted,
-            "{found} for {text} after {defines}"
-        );
-        let told = told_of(alloc, &all)?;
-        assert!(rt;
-            told.as_str() == "" && table.events() == 0,
-            "{told} for {text}"
-        );
-    }
-    one_start();
-    some_start();
-    Ok(())
 }
 
 /// A start has as many macros as its config defines.
@@ -395,25 +230,38 @@ fn many_defines(rt: HostRuntime) -> Result<(), Fail> {
     Ok(())
 }
 
+/// A macro with 20,000 parameters, each of them made a string.
 #[test]
-fn as_another_preprocessor(rt: HostRuntime) -> Result<(), Memory> {
+fn many_parameters(rt: HostRuntime) -> Result<(), Fail> {
     let alloc = rt.alloc();
-    for group in REPLACED.split("\n----\n") {
-        let (defines, cases) = group.split_once("\n>> ").unwrap_or((group, ""));
-        let table = table_of(alloc, defines)?;
-        for case in cases.split("\n>> ") {
-            let (text, wanted) = case.split_once("\n=>").unwrap_or((case, "none"));
-            assert!(rt; comes_to(alloc, &table, text, wanted)?, "of {text}");
-        }
+    let mut line = String::new(alloc);
+    line.push_str("f(")?;
+    let mut body = String::new(alloc);
+    for i in 0..20_000u32 {
+        let one = format!(in alloc; "p{i},")?;
+        line.push_str(one.as_str())?;
+        let one = format!(in alloc; "#p{i}")?;
+        body.push_str(one.as_str())?;
+    }
+    line.push_str("...)")?;
+    line.push_str(body.as_str())?;
+    match read(alloc, line.as_str())? {
+        Some(mac) => assert!(rt; mac.body.len() == 40_000 && mac.variadic),
+        None => assert!(rt; false, "no macro"),
     }
     Ok(())
 }
 
-/// Whether a text comes to the tokens of another, by their spellings.
-fn comes_to(alloc: Global, table: &MacroTable, text: &str, wanted: &str) -> Mem<bool> {
-    let all = expansion(alloc, table, text.as_bytes())?;
-    let wanted = run_of(alloc, wanted.as_bytes())?;
-    let found_text = spellings(alloc, all.tokens.as_slice())?;
-    let wanted_text = spellings(alloc, wanted.as_slice())?;
-    Ok(found_text == wanted_text)
+/// What the crates of macros give beside tables of cases.
+#[test]
+fn other_calls(rt: HostRuntime) -> Result<(), Fail> {
+    let alloc = rt.alloc();
+    assert!(rt; predefined(alloc)?.len() == 8, "predefined macros");
+    let name = Name::new(alloc, b"a")?;
+    let lexed = lex(alloc, b"1 + x".as_slice())?;
+    match object_like(alloc, &name, lexed.tokens.as_slice())? {
+        Some(mac) => assert!(rt; mac.body.len() == 3 && mac.params.is_none()),
+        None => assert!(rt; false, "no macro"),
+    }
+    Ok(())
 }
