@@ -6,7 +6,7 @@ use cl_cond::{IfValue, eval_if};
 use std::alloc::Global;
 
 /// The value of a condition, with `u` where it is unsigned, or the number of the token at fault.
-pub fn value(alloc: Global, condition: &[u8]) -> Mem<Vec<u8>> {
+pub(crate) fn value(alloc: Global, condition: &[u8]) -> Mem<Vec<u8>> {
     let tokens = run_of(alloc, condition)?;
     let text = match eval_if(alloc, tokens.as_slice())? {
         IfValue::Value {

@@ -6,27 +6,27 @@ use cl_lex::lex;
 use std::alloc::Global;
 
 /// A place for the name of a macro.
-pub const NAME_PLACE: Span = Span {
+pub(crate) const NAME_PLACE: Span = Span {
     file: 3,
     from: 8,
     to: 9,
 };
 
 /// The macro of the tokens behind a `define`.
-pub fn read(alloc: Global, line: &[u8]) -> Mem<Option<Macro>> {
+pub(crate) fn read(alloc: Global, line: &[u8]) -> Mem<Option<Macro>> {
     let lexed = lex(alloc, line)?;
     read_define(alloc, lexed.tokens.as_slice(), NAME_PLACE)
 }
 
 /// The macro that a line defines: its name, its parameters, and its replacement list behind a bar, with a space where white
 /// space stands; `-` where it defines none.
-pub fn macro_of(alloc: Global, line: &[u8]) -> Mem<Vec<u8>> {
+pub(crate) fn macro_of(alloc: Global, line: &[u8]) -> Mem<Vec<u8>> {
     let found = read(alloc, line)?;
     shown(alloc, &found)
 }
 
 /// Whether two definitions are the same, in both orders.
-pub fn same(alloc: Global, line: &[u8], other: &[u8]) -> Mem<Vec<u8>> {
+pub(crate) fn same(alloc: Global, line: &[u8], other: &[u8]) -> Mem<Vec<u8>> {
     let mut out = Vec::new(alloc);
     let words = match (read(alloc, line)?, read(alloc, other)?) {
         (Some(a), Some(b)) => match (is_same(&a, &b), is_same(&b, &a)) {
@@ -41,7 +41,7 @@ pub fn same(alloc: Global, line: &[u8], other: &[u8]) -> Mem<Vec<u8>> {
 }
 
 /// The macro that a name and a list of tokens of the settings make.
-pub fn setting(alloc: Global, name: &[u8], list: &[u8]) -> Mem<Vec<u8>> {
+pub(crate) fn setting(alloc: Global, name: &[u8], list: &[u8]) -> Mem<Vec<u8>> {
     let name = Name::new(alloc, name)?;
     let lexed = lex(alloc, list)?;
     let found = object_like(alloc, &name, lexed.tokens.as_slice())?;

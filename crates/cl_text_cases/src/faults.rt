@@ -6,8 +6,11 @@ use std::alloc::Global;
 use std::str;
 
 /// The severity of a number, and what is said of it with this name.
-pub fn said(alloc: Global, number: &[u8], name: &[u8]) -> Mem<Vec<u8>> {
-    let number = str::from_utf8(number).unwrap_or("").parse::<u8>().unwrap_or(0);
+pub(crate) fn said(alloc: Global, number: &[u8], name: &[u8]) -> Mem<Vec<u8>> {
+    let number = str::from_utf8(number)
+        .unwrap_or("")
+        .parse::<u8>()
+        .unwrap_or(0);
     let name = if name.is_empty() {
         None
     } else {

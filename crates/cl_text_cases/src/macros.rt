@@ -9,7 +9,7 @@ use cl_macro::{Expanded, MacroTable};
 use std::alloc::Global;
 
 /// Adds the macro that a line behind `define` defines.
-pub fn define(alloc: Global, table: &mut MacroTable, line: &[u8]) -> Mem<()> {
+pub(crate) fn define(alloc: Global, table: &mut MacroTable, line: &[u8]) -> Mem<()> {
     if let Some(mac) = read(alloc, line)? {
         let _how = table.define(alloc, &EmptyBase, mac)?;
     }
@@ -17,7 +17,7 @@ pub fn define(alloc: Global, table: &mut MacroTable, line: &[u8]) -> Mem<()> {
 }
 
 /// The tokens that a text comes to, with a space between two.
-pub fn tokens(alloc: Global, table: &MacroTable, text: &[u8]) -> Mem<Vec<u8>> {
+pub(crate) fn tokens(alloc: Global, table: &MacroTable, text: &[u8]) -> Mem<Vec<u8>> {
     let all = expansion(alloc, table, text)?;
     let mut out = Vec::new(alloc);
     for token in all.tokens.as_slice() {
@@ -30,7 +30,7 @@ pub fn tokens(alloc: Global, table: &MacroTable, text: &[u8]) -> Mem<Vec<u8>> {
 
 /// The tokens that a text comes to, with a space where white space stands; then the faults, and the uses, each with its place
 /// and the number of tokens before its outermost invocation.
-pub fn told(alloc: Global, table: &MacroTable, text: &[u8]) -> Mem<Vec<u8>> {
+pub(crate) fn told(alloc: Global, table: &MacroTable, text: &[u8]) -> Mem<Vec<u8>> {
     let all = expansion(alloc, table, text)?;
     let mut out = spaced(alloc, &all)?;
     out.extend_from_slice(b" |".as_slice())?;
@@ -46,7 +46,7 @@ pub fn told(alloc: Global, table: &MacroTable, text: &[u8]) -> Mem<Vec<u8>> {
 }
 
 /// The tokens that a text comes to after the defines of the settings, one a line: a name, and behind a space its text.
-pub fn started(alloc: Global, defines: &[u8], text: &[u8]) -> Mem<Vec<u8>> {
+pub(crate) fn started(alloc: Global, defines: &[u8], text: &[u8]) -> Mem<Vec<u8>> {
     let mut all = List::new(alloc);
     for line in defines.split(|byte| *byte == b'\n') {
         let mut parts = line.splitn(2, |byte| *byte == b' ');
@@ -81,7 +81,7 @@ fn expansion(alloc: Global, table: &MacroTable, text: &[u8]) -> Mem<Expanded> {
 }
 
 /// The tokens of a text, each where it is written.
-pub fn run_of(alloc: Global, text: &[u8]) -> Mem<List<PpToken>> {
+pub(crate) fn run_of(alloc: Global, text: &[u8]) -> Mem<List<PpToken>> {
     let lexed = lex(alloc, text)?;
     let mut run = List::new(alloc);
     for token in lexed.tokens.as_slice() {

@@ -7,7 +7,7 @@ use std::alloc::Global;
 
 /// The marks of a file's lines, each with the number of the token at which it begins, and the faults with those at which they
 /// lie.
-pub fn marks_and_faults(alloc: Global, file: &[u8]) -> Mem<Vec<u8>> {
+pub(crate) fn marks_and_faults(alloc: Global, file: &[u8]) -> Mem<Vec<u8>> {
     let tokens = numbered(alloc, file)?;
     let found = groups(alloc, tokens.as_slice())?;
     let mut out = Vec::new(alloc);

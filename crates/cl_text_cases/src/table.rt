@@ -44,7 +44,7 @@ enum Section {
 
 /// What stands between the lines of a table.
 #[derive(Drop)]
-pub struct Table {
+pub(crate) struct Table {
     section: Section,
     /// The macros that the lines `#define` of this part of the section have defined.
     macros: MacroTable,
@@ -56,7 +56,7 @@ pub struct Table {
 
 impl Table {
     /// A table before its first line.
-    pub fn new(alloc: Global) -> Table {
+    pub(crate) fn new(alloc: Global) -> Table {
         Table {
             section: Section::Tokens,
             macros: MacroTable::new(alloc),
@@ -66,7 +66,7 @@ impl Table {
     }
 
     /// What is printed for the table's next line.
-    pub fn line(&mut self, alloc: Global, line: &str) -> Mem<String> {
+    pub(crate) fn line(&mut self, alloc: Global, line: &str) -> Mem<String> {
         if line.starts_with("[") && !line.contains(" => ") {
             self.section = section_of(line);
             self.macros = MacroTable::new(alloc);

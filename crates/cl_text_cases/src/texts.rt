@@ -5,7 +5,7 @@ use cl_pp::{PpDone, preprocess};
 use std::alloc::Global;
 
 /// The tokens of a text with their places, and its faults with theirs.
-pub fn tokens_and_faults(alloc: Global, text: &[u8]) -> Mem<Vec<u8>> {
+pub(crate) fn tokens_and_faults(alloc: Global, text: &[u8]) -> Mem<Vec<u8>> {
     let done = done_of(alloc, text)?;
     let mut out = Vec::new(alloc);
     for token in done.tokens.as_slice() {
@@ -23,7 +23,7 @@ pub fn tokens_and_faults(alloc: Global, text: &[u8]) -> Mem<Vec<u8>> {
 
 /// The macro events of a text, the uses of macros, each with its event and the number of tokens before it, and the names that
 /// were looked up.
-pub fn noted(alloc: Global, text: &[u8]) -> Mem<Vec<u8>> {
+pub(crate) fn noted(alloc: Global, text: &[u8]) -> Mem<Vec<u8>> {
     let done = done_of(alloc, text)?;
     let mut out = Vec::new(alloc);
     for event in done.events.as_slice() {
@@ -43,7 +43,7 @@ pub fn noted(alloc: Global, text: &[u8]) -> Mem<Vec<u8>> {
 }
 
 /// The tokens of a text, with a space between two, and its number of faults.
-pub fn tokens(alloc: Global, text: &[u8]) -> Mem<Vec<u8>> {
+pub(crate) fn tokens(alloc: Global, text: &[u8]) -> Mem<Vec<u8>> {
     let done = done_of(alloc, text)?;
     let mut out = Vec::new(alloc);
     for token in done.tokens.as_slice() {

@@ -6,7 +6,7 @@ use std::alloc::Global;
 
 /// The tokens of a text, each as its kind's letter, its spelling, its place, `s` after white space and `f` at the first of a
 /// line; and then the faults.
-pub fn all(alloc: Global, text: &[u8]) -> Mem<Vec<u8>> {
+pub(crate) fn all(alloc: Global, text: &[u8]) -> Mem<Vec<u8>> {
     let lexed = lex(alloc, text)?;
     let mut out = Vec::new(alloc);
     for token in lexed.tokens.as_slice() {
@@ -31,7 +31,7 @@ pub fn all(alloc: Global, text: &[u8]) -> Mem<Vec<u8>> {
 }
 
 /// The letter of the kind of the one token that the characters are, `-` where they are none.
-pub fn one(alloc: Global, spelling: &[u8]) -> Mem<Vec<u8>> {
+pub(crate) fn one(alloc: Global, spelling: &[u8]) -> Mem<Vec<u8>> {
     let mut out = Vec::new(alloc);
     out.push(match one_token(spelling) {
         Some(kind) => letter(kind),
