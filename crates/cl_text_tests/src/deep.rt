@@ -40,7 +40,10 @@ fn deep_sections_and_parentheses(rt: HostRuntime) -> Result<(), Fail> {
     let lexed = lex(alloc, text.as_slice())?;
     let found = groups(alloc, lexed.tokens.as_slice())?;
     assert!(rt; found.marks.len() == 100_001 && found.faults.len() == 100_000);
-    assert!(rt; counts(alloc, text.as_slice())? == (1, 100_000), "no section is ended");
+    assert!(rt;
+        counts(alloc, text.as_slice())? == (1, 100_000),
+        "no section is ended"
+    );
     let text = around(alloc, 100_000, "#if 1\n", "a\n", "#endif\n")?;
     assert!(rt; counts(alloc, text.as_slice())? == (1, 0), "each is ended");
     let mut text = Vec::new(alloc);
@@ -48,8 +51,14 @@ fn deep_sections_and_parentheses(rt: HostRuntime) -> Result<(), Fail> {
     let condition = around(alloc, 300_000, "(", "1", ")")?;
     text.extend_from_slice(condition.as_slice())?;
     text.extend_from_slice(b"\na\n#endif\n".as_slice())?;
-    assert!(rt; counts(alloc, text.as_slice())? == (1, 0), "the condition holds");
+    assert!(rt;
+        counts(alloc, text.as_slice())? == (1, 0),
+        "the condition holds"
+    );
     let text = around(alloc, 30_000, "#if (", "", "")?;
-    assert!(rt; counts(alloc, text.as_slice())?.1 == 2, "nothing stands in them");
+    assert!(rt;
+        counts(alloc, text.as_slice())?.1 == 2,
+        "nothing stands in them"
+    );
     Ok(())
 }
