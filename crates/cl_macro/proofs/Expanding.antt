@@ -11,7 +11,7 @@ use Rattle.cl_macro.specs.Turns.{Turn, Stays, Invokes, Misfits, Open, turn, stay
 use Rattle.std.proofs.lemmas.Grind.{common_steps}
 use Rattle.cl_macro.specs.Replacing.{settled_word, Works, done, stays, invokes, misfits, open_ended, replacements, Expands, whole, large, settled, span_of, all_told}
 use Rattle.cl_macro.specs.declared.level.Level.{Level}
-use Rattle.cl_macro.specs.Levels.{ahead, Passes, Within}
+use Rattle.cl_macro.specs.Levels.{ahead, Passes, Within, rest_of}
 use Rattle.cl_macro.proofs.Standing.{looks_zero, stay_zero, replacements_more, taken_length}
 
 -- what is invoked takes what it takes
@@ -117,17 +117,17 @@ module _ (rules_at : Span → Rules) where
   -- the tokens of an invocation that is too large
   pub gone_stay : (run rest words : List Word) (ts : List Told) (first w : Word) (m : Macro) (behind taken : List Word) (count : ℕ) (level level2 : Level) (words2 : List Word) (notes : List Note) (ts2 : List Told)
       → Gone run words ts rest
-      → rest ≡ first ∷ behind → w ≡ first → level.work ≡ [] → level.rest.now ≡ behind → level.out ≡ []
+      → rest ≡ first ∷ behind → w ≡ first → level.work ≡ [] → rest_of level ≡ behind → level.out ≡ []
       → turn (rules_at first.token.at).macros first behind ≡ Invokes m taken → taken ≡ take count (ahead level) → count ≤ length (ahead level)
       → ((out left : List Word) (ns : List Note) → Works (rules_at first.token.at) (first ∷ []) behind out left ns → 65535 < replacements ns)
       → Passes count level level2 → level2.out ≡ level.out ++ w ∷ take count (ahead level) → words2 ≡ words ++ level2.out
       → notes ≡ [] ++ stay_notes 17 w (take count (ahead level)) → ts2 ≡ ts ++ all_told (length words) first.token.at notes
-      → Gone run words2 ts2 level2.rest.now
+      → Gone run words2 ts2 (rest_of level2)
   gone_stay run rest words ts first w m behind taken count level level2 words2 notes ts2 k e ew lw lr lo t tt2 h big p eo es en et =
       let a : ahead level ≡ behind = (λ i. reverse (lw i) ++ lr i) in
       let tk : take count (ahead level) ≡ take count behind = ap (take count) a in
       let lc : length (take count behind) ≡ count = taken_length (rules_at first.token.at) count behind (subst (λ (ws : List Word). count ≤ length ws) a h) in
-      gone_large run rest words ts first m behind (take count behind) level2.rest.now words2 ts2 k e
+      gone_large run rest words ts first m behind (take count behind) (rest_of level2) words2 ts2 k e
       (t ∙ ap (λ ws. Invokes m ws) (tt2 ∙ tk)) big
       (p.rest ∙ (λ i. drop (count - length (lw i)) (lr i)) ∙ ap (λ n. drop n behind) (let z : count - 0 ≡ length (take count behind) = omega arith in z))
       (es ∙ ap (λ ws. words ++ ws) (eo ∙ (λ i. lo i ++ ew i ∷ tk i)))

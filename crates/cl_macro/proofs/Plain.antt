@@ -22,7 +22,7 @@ no_macro : (b : Bool) (m : Option Macro) → (b ≡ true → m ≡ None) → (if
 no_macro true m h = h refl
 no_macro false m h = refl
 
-plain_stays : (macros : List ℕ → Option Macro) (t : PpToken) (more : List Word) → (is_ident t.kind ≡ true → macros t.text ≡ None) → turn macros (fresh t) more ≡ Stays
+pub plain_stays : (macros : List ℕ → Option Macro) (t : PpToken) (more : List Word) → (is_ident t.kind ≡ true → macros t.text ≡ None) → turn macros (fresh t) more ≡ Stays
 plain_stays macros t more h = ap (λ (m : Option Macro). turn_of m more) (no_macro (is_ident t.kind) (macros t.text) h)
 
 no_faults : (b : Bool) (name : List ℕ) (before : ℕ) (at : Span) (ts : List Told) → faults_of (all_told before at ((if b then note.Looked name ∷ [] else []) ++ []) ++ ts) ≡ faults_of ts

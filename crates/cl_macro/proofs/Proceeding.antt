@@ -11,9 +11,9 @@ use Rattle.cl_macro.specs.declared.pending.Pending.{Pending}
 use Rattle.cl_macro.specs.declared.machine.Whole.{Whole}
 use Rattle.cl_macro.specs.declared.walk.Invoked.{Invoked}
 use Rattle.cl_macro.specs.Turns.{invoking, close_of, took, took_by}
-use Rattle.cl_macro.specs.Words.{place_of}
+use Rattle.cl_macro.specs.Words.{place_of, fresh}
 use Rattle.cl_macro.specs.Replacing.{Works, replacements, done}
-use Rattle.cl_macro.specs.Levels.{ahead, Invoking, Ended}
+use Rattle.cl_macro.specs.Levels.{ahead, Invoking, Ended, rest_of}
 use Rattle.cl_macro.specs.Walks.{Frame, Leads, working, between, with_done, with_waiting, made_of, notes_of, Outside, Goes}
 use Rattle.cl_macro.specs.Frames.{Closed, Short, Proceeds, Runs, Finds, Ends, Replaced, at_level, begun_at, frame_of, frames}
 use Rattle.cl_macro.specs.Outermost.{Wholly, Reached}
@@ -63,7 +63,7 @@ le_trans a b c h k = omega arith
 pub drop_short : (k : ℕ) (ws : List Word) (n : ℕ) → length ws ≤ n → length (drop k ws) ≤ n
 drop_short k ws n h = let e = length-drop k ws in omega arith
 
-pub popped_short : (n : ℕ) (calls calls2 : List Pending) (p : Pending) → calls ≡ calls2 ++ p ∷ [] → Short n (frames calls) → (length p.level.rest.now ≤ n) × Short n (frames calls2)
+pub popped_short : (n : ℕ) (calls calls2 : List Pending) (p : Pending) → calls ≡ calls2 ++ p ∷ [] → Short n (frames calls) → (length (rest_of p.level) ≤ n) × Short n (frames calls2)
 popped_short n calls calls2 p e s = subst (λ (fs : List Frame). Short n fs) (pushed_frames calls2 calls p e) s
 
 module _ (rules : Rules) where
@@ -88,7 +88,7 @@ module _ (rules : Rules) where
   }
 
   pub proceeds_next : (fs next : List Frame) (f : Frame) (arg : List Word) (waiting : List (List Word)) (level : Level) (notes : List Note)
-      → f.waiting ≡ arg ∷ waiting → next ≡ with_waiting f waiting ∷ fs → reverse level.work ≡ arg → level.rest.now ≡ [] → level.out ≡ []
+      → f.waiting ≡ arg ∷ waiting → next ≡ with_waiting f waiting ∷ fs → reverse level.work ≡ arg → rest_of level ≡ [] → level.out ≡ []
       → Proceeds rules fs f notes next level notes
   proceeds_next fs next f arg waiting level notes e en ew er eo = record {
     more = [];
@@ -97,7 +97,7 @@ module _ (rules : Rules) where
     leads = subst (λ (n : List Frame). Leads (between rules fs f) (at_level rules n level) []) (sym en)
         (at_equal (between rules fs f) (with_waiting f waiting ∷ fs) _ _ _ _ _ _ [] (sym ew) (sym er) (sym eo)
         (subst (λ (ws : List (List Word)). Leads (between rules fs (with_waiting f ws)) (working rules (with_waiting f waiting ∷ fs) arg [] []) []) (sym e) (leads_next rules fs f arg waiting)));
-    closed = λ k. subst (λ (n : List Frame). Closed n level.rest.now) (sym en) (er, k);
+    closed = λ k. subst (λ (n : List Frame). Closed n (rest_of level)) (sym en) (er, k);
   }
 
   both_none : (a b : List Note) → replacements a ≡ 0 → replacements b ≡ 0 → replacements (a ++ b) ≡ 0
@@ -138,7 +138,7 @@ module _ (rules : Rules) where
 
   -- an argument has ended, and its invocation goes on
   pub runs_proceeds : (fs next2 mid : List Frame) (f : Frame) (first level level3 : Level) (before notes notes3 : List Note)
-      → Runs rules fs first before (f ∷ mid) level notes → level.work ≡ [] → Closed fs first.rest.now
+      → Runs rules fs first before (f ∷ mid) level notes → level.work ≡ [] → Closed fs (rest_of first)
       → Proceeds rules mid (with_done f level.out) notes next2 level3 notes3
       → Runs rules fs first before next2 level3 notes3
   runs_proceeds fs next2 mid f first level level3 before notes notes3 r e k p =
@@ -152,7 +152,7 @@ module _ (rules : Rules) where
         closed = λ k. p.closed c.1;
       }
 
-  pub reached_none : (w : Word) (level : Level) → level.work ≡ w ∷ [] → level.out ≡ [] → Reached rules w level.rest.now [] level [] 0
+  pub reached_none : (w : Word) (level : Level) → level.work ≡ w ∷ [] → level.out ≡ [] → Reached rules w (rest_of level) [] level [] 0
   reached_none w level e o = record {
     leads = at_equal _ [] _ _ _ _ _ _ [] (sym (ap reverse e)) refl (sym o) (leads_none _);
     counts = refl;
@@ -172,18 +172,18 @@ module _ (rules : Rules) where
 
   pub reached_ends : (w : Word) (rest : List Word) (fs next : List Frame) (level level2 : Level) (notes notes2 : List Note) (count : ℕ) (whole : Whole)
       → Reached rules w rest fs level notes count → Ends rules fs level notes next level2 notes2
-      → whole.out ≡ level2.out → whole.left.now ≡ level2.rest.now → whole.notes ≡ notes2 → Wholly rules w rest whole
+      → whole.out ≡ level2.out → map fresh whole.left.now ≡ rest_of level2 → whole.notes ≡ notes2 → Wholly rules w rest whole
   reached_ends w rest fs next level level2 notes notes2 count whole r e eo el en =
       let l = leads_then _ _ _ notes e.runs.more r.leads e.runs.leads in
-      let m : Leads (working rules [] (w ∷ []) rest []) (working rules [] (reverse level2.work) level2.rest.now level2.out) (notes ++ e.runs.more) =
+      let m : Leads (working rules [] (w ∷ []) rest []) (working rules [] (reverse level2.work) (rest_of level2) level2.out) (notes ++ e.runs.more) =
       subst (λ (n : List Frame). Leads (working rules [] (w ∷ []) rest []) (at_level rules n level2) (notes ++ e.runs.more)) e.last l in
-      let k : Leads (working rules [] (w ∷ []) rest []) (working rules [] [] level2.rest.now level2.out) (notes ++ e.runs.more) =
+      let k : Leads (working rules [] (w ∷ []) rest []) (working rules [] [] (rest_of level2) level2.out) (notes ++ e.runs.more) =
       at_equal _ [] _ _ _ _ _ _ _ (ap reverse e.empty) refl refl m in
-      let d = ended_works w rest level2.out level2.rest.now (notes ++ e.runs.more) k in
+      let d = ended_works w rest level2.out (rest_of level2) (notes ++ e.runs.more) k in
       let same : whole.notes ≡ notes ++ e.runs.more = en ∙ e.runs.all in
       record {
-        works = subst (λ (o : List Word). Works rules (w ∷ []) rest o whole.left.now whole.notes) (sym eo)
-            (subst (λ (l : List Word). Works rules (w ∷ []) rest level2.out l whole.notes) (sym el) (subst (λ (n : List Note). Works rules (w ∷ []) rest level2.out level2.rest.now n) (sym same) d));
+        works = subst (λ (o : List Word). Works rules (w ∷ []) rest o (map fresh whole.left.now) whole.notes) (sym eo)
+            (subst (λ (l : List Word). Works rules (w ∷ []) rest level2.out l whole.notes) (sym el) (subst (λ (n : List Note). Works rules (w ∷ []) rest level2.out (rest_of level2) n) (sym same) d));
         small = let a = replacements_more notes e.runs.more in let b = r.counts in let z = e.runs.none in let m = r.most in let q = ap replacements same in omega arith;
       }
 
@@ -197,7 +197,7 @@ module _ (rules : Rules) where
   reached_large w rest fs next level level2 notes notes2 count found r e f out left ns d =
       let l = leads_then _ _ _ notes f.more r.leads f.leads in
       let p = l.back out left ns (starts w rest out left ns d) in
-      let i = leads_invokes rules next found.word (reverse level2.work) level2.rest.now level2.out (take found.count (ahead level2)) (lent_value found.mac) f.turns in
+      let i = leads_invokes rules next found.word (reverse level2.work) (rest_of level2) level2.out (take found.count (ahead level2)) (lent_value found.mac) f.turns in
       let q = i.back out left p.more p.goes in
       let a = replacements_more (notes ++ f.more) p.more in
       let b = replacements_more notes f.more in
@@ -210,9 +210,9 @@ module _ (rules : Rules) where
       → f ≡ begun_at found level2 → notes3 ≡ notes2 ++ invoking found.word (take found.count (ahead level2))
       → Proceeds rules next f notes3 next3 level3 notes4 → Reached rules w rest next3 level3 notes4 (count + 1)
   reached_on w rest fs next next3 level level2 level3 notes notes2 notes3 notes4 count found f r ne g ef en p =
-      let i = leads_invokes rules next found.word (reverse level2.work) level2.rest.now level2.out (take found.count (ahead level2)) (lent_value found.mac) g.turns in
-      let i2 : Leads (working rules next (found.word ∷ reverse level2.work) level2.rest.now level2.out) (between rules next f) (invoking found.word (take found.count (ahead level2))) =
-      subst (λ (h : Frame). Leads (working rules next (found.word ∷ reverse level2.work) level2.rest.now level2.out) (between rules next h) (invoking found.word (take found.count (ahead level2)))) (sym ef) i in
+      let i = leads_invokes rules next found.word (reverse level2.work) (rest_of level2) level2.out (take found.count (ahead level2)) (lent_value found.mac) g.turns in
+      let i2 : Leads (working rules next (found.word ∷ reverse level2.work) (rest_of level2) level2.out) (between rules next f) (invoking found.word (take found.count (ahead level2))) =
+      subst (λ (h : Frame). Leads (working rules next (found.word ∷ reverse level2.work) (rest_of level2) level2.out) (between rules next h) (invoking found.word (take found.count (ahead level2)))) (sym ef) i in
       let l = leads_then _ _ _ _ p.more (leads_then _ _ _ _ (invoking found.word (take found.count (ahead level2))) (leads_then _ _ _ notes g.more r.leads g.leads) i2) p.leads in
       let all : notes4 ≡ ((notes ++ g.more) ++ invoking found.word (take found.count (ahead level2))) ++ p.more =
       p.all ∙ ap (λ xs. xs ++ p.more) (en ∙ ap (λ xs. xs ++ invoking found.word (take found.count (ahead level2))) g.all) in

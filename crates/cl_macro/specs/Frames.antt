@@ -14,7 +14,7 @@ use Rattle.cl_macro.specs.Turns.{args_of, set_of}
 use Rattle.cl_macro.specs.Made.{made}
 use Rattle.cl_macro.specs.Params.{asked, raws}
 use Rattle.cl_macro.specs.Replacing.{replacements}
-use Rattle.cl_macro.specs.Levels.{ahead, Takes}
+use Rattle.cl_macro.specs.Levels.{ahead, Takes, rest_of}
 use Rattle.cl_macro.specs.Walks.{Frame, Leads, working, between}
 
 abbrev pub begun : Word → List Word → List Word → Macro → List Word → List Word → Frame
@@ -31,7 +31,7 @@ begun w work rest m behind before = record {
 }
 
 abbrev pub begun_at : Invoked → Level → Frame
-begun_at found level = begun found.word (reverse level.work) level.rest.now (lent_value found.mac) (take found.count (ahead level)) level.out
+begun_at found level = begun found.word (reverse level.work) (rest_of level) (lent_value found.mac) (take found.count (ahead level)) level.out
 
 abbrev pub frame_of : Pending → Frame
 frame_of p = record {
@@ -42,7 +42,7 @@ frame_of p = record {
   done = p.done;
   waiting = reverse p.waiting;
   work = reverse p.level.work;
-  rest = p.level.rest.now;
+  rest = rest_of p.level;
   out = p.level.out;
 }
 
@@ -66,7 +66,7 @@ Short n (f ∷ fs) = (length f.rest ≤ n) × Short n fs
 
 module _ (rules : Rules) where
   abbrev pub at_level : List Frame → Level → List Word → List Word → List Note → Type 0
-  at_level fs level = working rules fs (reverse level.work) level.rest.now level.out
+  at_level fs level = working rules fs (reverse level.work) (rest_of level) level.out
 
   -- the arguments or the replacement of an invocation begin
   pub record Proceeds (fs : List Frame) (f : Frame) (before : List Note) (next : List Frame) (level : Level) (notes : List Note) : Type 0 where
@@ -74,7 +74,7 @@ module _ (rules : Rules) where
     pub all : notes ≡ before ++ more
     pub none : replacements more ≡ 0
     pub leads : Leads (between rules fs f) (at_level next level) more
-    pub closed : Closed fs f.rest → Closed next level.rest.now
+    pub closed : Closed fs f.rest → Closed next (rest_of level)
 
   -- it has gone on to another moment
   pub record Runs (fs : List Frame) (first : Level) (before : List Note) (next : List Frame) (level : Level) (notes : List Note) : Type 0 where
@@ -82,15 +82,15 @@ module _ (rules : Rules) where
     pub all : notes ≡ before ++ more
     pub none : replacements more ≡ 0
     pub leads : Leads (at_level fs first) (at_level next level) more
-    pub closed : Closed fs first.rest.now → Closed next level.rest.now
+    pub closed : Closed fs (rest_of first) → Closed next (rest_of level)
 
   -- it has gone on to the next invocation
   pub record Finds (fs : List Frame) (first : Level) (before : List Note) (next : List Frame) (level : Level) (notes : List Note) (found : Invoked) : Type 0 where
     pub more : List Note
     pub all : notes ≡ before ++ more
     pub none : replacements more ≡ 0
-    pub leads : Leads (at_level fs first) (working rules next (found.word ∷ reverse level.work) level.rest.now level.out) more
-    pub closed : Closed fs first.rest.now → Closed next level.rest.now
+    pub leads : Leads (at_level fs first) (working rules next (found.word ∷ reverse level.work) (rest_of level) level.out) more
+    pub closed : Closed fs (rest_of first) → Closed next (rest_of level)
     pub turns : turn rules.macros found.word (ahead level) ≡ Invokes (lent_value found.mac) (take found.count (ahead level))
     pub within : found.count ≤ length (ahead level)
     pub fits : Takes (lent_value found.mac).params found.count
@@ -108,5 +108,5 @@ module _ (rules : Rules) where
 -- what replaces an invocation stands before what follows it
 pub record Replaced (rules : Rules) (f : Frame) (level : Level) : Type 0 where
   pub work : reverse level.work ≡ made rules f.mac f.args f.done f.space f.set ++ f.work
-  pub rest : level.rest.now ≡ f.rest
+  pub rest : rest_of level ≡ f.rest
   pub out : level.out ≡ f.out

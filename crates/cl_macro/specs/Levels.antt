@@ -1,5 +1,5 @@
 -- Tokens in work as the code keeps them.
-use Rattle.std.specs.Prelude.{◌≡◌, ℕ, ◌-◌, ◌+◌, List, [], ◌∷◌, ◌++◌, reverse, length, drop, take, Option, Some, None, Bool, ◌≤◌, ◌==◌, ◌||◌, ◌&&◌}
+use Rattle.std.specs.Prelude.{◌≡◌, ℕ, ◌-◌, ◌+◌, List, [], ◌∷◌, ◌++◌, reverse, length, drop, take, map, Option, Some, None, Bool, ◌≤◌, ◌==◌, ◌||◌, ◌&&◌}
 use Rattle.cl_base.specs.Lent.{lent_value}
 use Rattle.cl_base.specs.declared.macros.Macro.{Macro}
 use Rattle.cl_base.specs.declared.token.Kind.{Kind}
@@ -17,13 +17,24 @@ use Rattle.cl_macro.specs.declared.walk.Invoked.{Invoked}
 use Rattle.cl_macro.specs.Replacing.{replacements}
 use Rattle.cl_macro.specs.Walks.{Walks}
 use Rattle.cl_macro.specs.declared.level.Level.{Level}
+use Rattle.cl_macro.specs.declared.level.Seen.{Seen}
+use Rattle.cl_macro.specs.declared.level.Seen.TheVariants as seen
+use Rattle.cl_macro.specs.Words.{fresh}
 use Rattle.cl_macro.specs.declared.word.Word.{Word}
+
+-- the run's tokens that nothing has taken yet
+abbrev pub rest_of : Level → List Word
+rest_of level = map fresh level.rest.now
+
+abbrev pub seen_word : Seen → Word
+seen_word (seen.Made word) = word.now
+seen_word (seen.Run token) = fresh token.now
 
 abbrev pub work_of : Level → List Word
 work_of level = reverse level.work
 
 abbrev pub ahead : Level → List Word
-ahead level = reverse level.work ++ level.rest.now
+ahead level = reverse level.work ++ rest_of level
 
 -- the rules go by the tokens of C, and by this place
 pub record Suits (rules : Rules) (place : Place) : Type 0 where
@@ -34,7 +45,7 @@ pub record Suits (rules : Rules) (place : Place) : Type 0 where
 -- so many tokens are taken
 pub record Passes (n : ℕ) (old new : Level) : Type 0 where
   pub work : reverse new.work ≡ drop n (reverse old.work)
-  pub rest : new.rest.now ≡ drop (n - length old.work) old.rest.now
+  pub rest : rest_of new ≡ drop (n - length old.work) (rest_of old)
 
 -- the rules of each place of a file with this text, whose path is this string literal
 abbrev pub rules_of : (List ℕ → Option Macro) → (List ℕ → Option Kind) → List ℕ → List ℕ → Span → Rules
@@ -103,8 +114,8 @@ module _ (rules : Rules) where
     pub out : level.out ≡ first.out ++ front
     pub all : notes ≡ before ++ more
     pub none : replacements more ≡ 0
-    pub kept : first.rest.now ≡ [] → level.rest.now ≡ []
-    pub walks : Walks rules (work_of first) first.rest.now front more (head ++ work_of level) level.rest.now
+    pub kept : rest_of first ≡ [] → rest_of level ≡ []
+    pub walks : Walks rules (work_of first) (rest_of first) front more (head ++ work_of level) (rest_of level)
 
   pub record Invoking (first : Level) (before : List Note) (level : Level) (notes : List Note) (found : Invoked) : Type 0 where
     pub stood : Stood first before (found.word ∷ []) level notes

@@ -1,5 +1,5 @@
 -- An invocation of the run, whole.
-use Rattle.std.specs.Prelude.{◌≡◌, ℕ, ◌≤◌, ◌<◌, List, [], ◌∷◌, Option, Some, None}
+use Rattle.std.specs.Prelude.{◌≡◌, ℕ, ◌≤◌, ◌<◌, List, [], ◌∷◌, map, Option, Some, None}
 use Rattle.cl_macro.specs.Rules.{Rules}
 use Rattle.cl_macro.specs.declared.word.Word.{Word}
 use Rattle.cl_macro.specs.declared.note.Note.{Note}
@@ -7,11 +7,13 @@ use Rattle.cl_macro.specs.declared.level.Level.{Level}
 use Rattle.cl_macro.specs.declared.machine.Whole.{Whole}
 use Rattle.cl_macro.specs.Replacing.{Works, replacements}
 use Rattle.cl_macro.specs.Walks.{Frame, Leads, working}
+use Rattle.cl_macro.specs.Levels.{rest_of}
+use Rattle.cl_macro.specs.Words.{fresh}
 use Rattle.cl_macro.specs.Frames.{Closed, at_level}
 
 module _ (rules : Rules) where
   pub record Wholly (w : Word) (rest : List Word) (whole : Whole) : Type 0 where
-    pub works : Works rules (w ∷ []) rest whole.out whole.left.now whole.notes
+    pub works : Works rules (w ∷ []) rest whole.out (map fresh whole.left.now) whole.notes
     pub small : replacements whole.notes ≤ 65535
 
   -- what becomes of the run's next token; None: more than 65,535 replacements are needed
@@ -24,4 +26,4 @@ module _ (rules : Rules) where
     pub leads : Leads (working rules [] (w ∷ []) rest []) (at_level rules fs level) notes
     pub counts : replacements notes ≡ count
     pub most : count ≤ 65535
-    pub closed : Closed fs level.rest.now
+    pub closed : Closed fs (rest_of level)

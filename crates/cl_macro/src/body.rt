@@ -13,15 +13,15 @@ use crate::note::Note;
 use crate::params::{is_paste, is_string, param_at, pastes_next};
 use crate::part::Part;
 use crate::spell::string_of;
-use crate::word::{Word, made_word};
+use crate::word::{Word, spelled};
 use cl_base::{BodyToken, Duplicate, List, Macro, Mem};
 use std::alloc::Global;
 
 fn body_word(alloc: Global, token: &BodyToken) -> Mem<Word>
     ensures { IfOk result (λ word. word ≡ body_word token.now) }
 {
-    let word = made_word(alloc, token.kind, token.text.bytes(), token.space)?;
-    Ok(word)
+    let text = token.text.duplicate(alloc)?;
+    Ok(spelled(token.kind, text, token.space))
 }
 
 /// The argument of this number.

@@ -3,21 +3,19 @@
 ghost use Rattle.std.specs.Prelude.{◌≡◌, ◌≤◌, ℕ, List, Option, length, map, IfOk};
 ghost use Rattle.cl_base.specs.declared.token.Kind.{Kind as TheKind};
 ghost use Rattle.cl_base.specs.Lines.{IsTableOf};
-ghost use Rattle.cl_macro.specs.Expansions.{IsExpansion, token_of};
+ghost use Rattle.cl_macro.specs.Expansions.{IsExpansion};
 ghost use Rattle.cl_macro.specs.Levels.{Within, rules_of};
 ghost use Rattle.cl_macro.specs.Rules.{TellsTokens};
 ghost use Rattle.cl_macro.specs.Strings.{escaped, quoted};
 ghost use Rattle.cl_macro.specs.Table.{event_of, macro_of};
 ghost use Rattle.cl_macro.specs.Words.{fresh};
 
-use crate::args::reversed;
 use crate::base::MacroBase;
-use crate::expanded::{Expanded, sorted};
+use crate::expanded::Expanded;
 use crate::run::expand_run;
 use crate::spell::push_escaped;
 use crate::table::MacroTable;
-use crate::word::{Word, fresh};
-use cl_base::{Duplicate, LineTable, List, Mem, Name, Path, PpToken};
+use cl_base::{LineTable, Mem, Name, Path, PpToken};
 use std::alloc::Global;
 
 /// The string literal of a path (N1570 6.10.8.1).
@@ -30,39 +28,6 @@ fn file_literal(alloc: Global, path: &Path) -> Mem<Name>
     text.push(b'"')?;
     let name = Name::new(alloc, text.as_slice())?;
     Ok(name)
-}
-
-/// The tokens of a run before anything happens.
-fn fresh_run(alloc: Global, run: &[PpToken]) -> Mem<List<Word>>
-    ensures { IfOk result (λ words. words ≡ map fresh run.now) }
-{
-    let mut words = List::new(alloc);
-    let mut rest = run;
-    while let Some((token, behind)) = rest.split_first() {
-        rest = behind;
-        let token = token.duplicate(alloc)?;
-        let word = fresh(alloc, token)?;
-        words.push(word)?;
-    }
-    Ok(words)
-}
-
-fn token_of(word: Word) -> PpToken
-    ensures { result ≡ token_of word }
-{
-    word.token
-}
-
-/// The tokens alone.
-fn tokens_of(alloc: Global, words: List<Word>) -> Mem<List<PpToken>>
-    ensures { IfOk result (λ tokens. tokens ≡ map token_of words) }
-{
-    let mut tokens = List::new(alloc);
-    let mut words = reversed(alloc, words)?;
-    while let Some(word) = words.pop() {
-        tokens.push(token_of(word))?;
-    }
-    Ok(tokens)
 }
 
 impl MacroTable {
@@ -80,10 +45,7 @@ impl MacroTable {
         ensures { (one_token : List ℕ → Option TheKind) (text : List ℕ) → TellsTokens one_token → IsTableOf lines.now text → Within text (map fresh run.now) → IfOk result (λ all. IsExpansion (rules_of (macro_of self.now (B.macros base.now)) one_token (quoted (escaped path.now)) text) (event_of self.now (B.events base.now)) run.now all) }
     {
         let file = file_literal(alloc, path)?;
-        let words = fresh_run(alloc, run)?;
-        let worked = expand_run(alloc, self, base, &file, lines, words.as_slice())?;
-        let tokens = tokens_of(alloc, worked.words)?;
-        let all = sorted(alloc, self, base, tokens, worked.told)?;
+        let all = expand_run(alloc, self, base, &file, lines, run)?;
         Ok(all)
     }
 }

@@ -1,15 +1,16 @@
 //! What a run of tokens comes to.
 
-ghost use Rattle.std.specs.Prelude.{◌≡◌, ◌++◌, ◌∷◌, [], List, OnOk, IfOk};
-ghost use Rattle.cl_macro.specs.declared.note.Told.{Told as TheTold};
-ghost use Rattle.cl_macro.specs.Expansions.{faults_of, looks_of, numbered, uses_of};
+ghost use Rattle.std.specs.Prelude.{◌≡◌, ◌++◌, ◌∷◌, [], None, OnOk};
+ghost use Rattle.cl_macro.specs.Expansions.{numbered};
+ghost use Rattle.cl_macro.specs.Replacing.{all_told, told_by};
 ghost use Rattle.cl_macro.specs.Table.{event_of};
+ghost use Rattle.cl_macro.specs.code.Gaining.{Keeps, Tells};
 
-use crate::args::reversed;
 use crate::base::MacroBase;
-use crate::note::Told;
+use crate::note::Note;
 use crate::table::MacroTable;
-use cl_base::{Diag, List, MacroNo, Mem, Name, PpToken, Span};
+use crate::word::is_ident;
+use cl_base::{Diag, Duplicate, List, MacroNo, Mem, Name, PpToken, Span};
 use std::alloc::Global;
 
 /// A name that is replaced: where it is written, the number of the event that gave it its macro, and how many of the
@@ -32,6 +33,16 @@ pub struct Expanded {
     pub uses: List<MacroUse>,
 }
 
+fn fault(number: u8, at: Span) -> Diag
+    ensures { result ≡ record { number = number; at = at; name = None } }
+{
+    Diag {
+        number,
+        at,
+        name: None,
+    }
+}
+
 /// Adds the use of a macro that has an event.
 fn push_use(uses: &mut List<MacroUse>, at: Span, before: u32, no: Option<MacroNo>) -> Mem<()>
     ensures { OnOk result (uses.new ≡ uses.old ++ numbered at before no) }
@@ -42,39 +53,72 @@ fn push_use(uses: &mut List<MacroUse>, at: Span, before: u32, no: Option<MacroNo
     Ok(())
 }
 
-/// The tokens, with what is told of them by what it is.
-pub(crate) fn sorted<B: MacroBase>(
-    alloc: Global,
-    table: &MacroTable,
-    base: &B,
-    tokens: List<PpToken>,
-    told: List<Told>,
-) -> Mem<Expanded>
-    ensures tokens { IfOk result (λ all. all.tokens ≡ tokens) }
-    ensures faults { IfOk result (λ all. all.faults ≡ faults_of told) }
-    ensures looked { IfOk result (λ all. all.looked ≡ looks_of told) }
-    ensures uses { IfOk result (λ all. all.uses ≡ uses_of (event_of table.now (B.events base.now)) told) }
-{
-    let mut all = Expanded {
-        tokens,
-        faults: List::new(alloc),
-        looked: List::new(alloc),
-        uses: List::new(alloc),
-    };
-    let mut rest = reversed(alloc, told)?;
-    while let Some(told) = rest.pop() {
-        match told {
-            Told::Looked(name) => all.looked.push(name)?,
-            Told::Used(name, at, before) => {
-                let no = table.event(alloc, base, &name)?;
-                push_use(&mut all.uses, at, before, no)?;
-            }
-            Told::Faulty(number, at) => all.faults.push(Diag {
-                number,
-                at,
-                name: None,
-            })?,
+impl Expanded {
+    /// Nothing yet. It takes no memory.
+    pub(crate) fn new(alloc: Global) -> Expanded
+        ensures { result ≡ record { tokens = []; faults = []; looked = []; uses = [] } }
+    {
+        Expanded {
+            tokens: List::new(alloc),
+            faults: List::new(alloc),
+            looked: List::new(alloc),
+            uses: List::new(alloc),
         }
     }
-    Ok(all)
+
+    /// Adds a token of the run that stays.
+    pub(crate) fn keep(&mut self, alloc: Global, token: &PpToken) -> Mem<()>
+        ensures { OnOk result (Keeps token.now self.old self.new) }
+    {
+        if is_ident(token.kind) {
+            self.looked.push(token.text.duplicate(alloc)?)?;
+        }
+        self.tokens.push(token.duplicate(alloc)?)?;
+        Ok(())
+    }
+
+    /// Adds what a note tells.
+    fn tell_one<B: MacroBase>(
+        &mut self,
+        alloc: Global,
+        table: &MacroTable,
+        base: &B,
+        note: &Note,
+        before: u32,
+        at: Span,
+    ) -> Mem<()>
+        ensures { OnOk result (Tells (event_of table.now (B.events base.now)) (told_by before at note.now) self.old self.new) }
+    {
+        match note {
+            Note::Looked(name) => self.looked.push(name.duplicate(alloc)?)?,
+            Note::Replaced(name, Some(spell)) => {
+                let no = table.event(alloc, base, name)?;
+                push_use(&mut self.uses, *spell, before, no)?;
+            }
+            Note::Replaced(_, None) | Note::Took(_) => {}
+            Note::Faulty(number, None) => self.faults.push(fault(*number, at))?,
+            Note::Faulty(number, Some(place)) => self.faults.push(fault(*number, *place))?,
+        }
+        Ok(())
+    }
+
+    /// Adds what the notes of an outermost invocation tell.
+    pub(crate) fn tell<B: MacroBase>(
+        &mut self,
+        alloc: Global,
+        table: &MacroTable,
+        base: &B,
+        notes: &[Note],
+        before: u32,
+        at: Span,
+    ) -> Mem<()>
+        ensures { OnOk result (Tells (event_of table.now (B.events base.now)) (all_told before at notes.now) self.old self.new) }
+    {
+        let mut rest = notes;
+        while let Some((note, behind)) = rest.split_first() {
+            rest = behind;
+            self.tell_one(alloc, table, base, note, before, at)?;
+        }
+        Ok(())
+    }
 }

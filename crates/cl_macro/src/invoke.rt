@@ -1,7 +1,7 @@
 //! An invocation from its name to what it is replaced by.
 
 ghost use Rattle.std.specs.Prelude.{◌≡◌, ◌-◌, ◌+◌, ◌<◌, ◌≤◌, ◌++◌, ℕ, List, Option, length, take, IfOk, OnOk};
-ghost use Rattle.cl_macro.specs.Levels.{ahead, Suits, Takes};
+ghost use Rattle.cl_macro.specs.Levels.{ahead, rest_of, Suits, Takes};
 ghost use Rattle.cl_base.specs.Lent.{lent_value};
 ghost use Rattle.cl_macro.specs.Rules.{Rules};
 ghost use Rattle.cl_macro.specs.Walks.{notes_of};
@@ -59,7 +59,7 @@ pub(crate) fn proceed<'a>(
     pending: Pending<'a>,
 ) -> Mem<Level<'a>>
     ensures fewer { OnOk result (waits calls.new ≤ waits calls.old + length pending.entry.waiting) }
-    ensures short { (n : ℕ) → Short n (frames calls.old) → length pending.entry.level.rest.now ≤ n → IfOk result (λ level. Short n (frames calls.new) × (length level.rest.now ≤ n)) }
+    ensures short { (n : ℕ) → Short n (frames calls.old) → length (rest_of pending.entry.level) ≤ n → IfOk result (λ level. Short n (frames calls.new) × (length (rest_of level) ≤ n)) }
     ensures proceeds { (rules : Rules) → Suits rules place.now → IfOk result (λ level. Proceeds rules (frames calls.old) (frame_of pending.entry) notes.old (frames calls.new) level notes.new) }
 {
     let mut pending = pending;
@@ -85,7 +85,7 @@ fn replaced<'a>(
     pending: Pending<'a>,
 ) -> Mem<Level<'a>>
     ensures words { (rules : Rules) → Suits rules place.now → IfOk result (λ level. Replaced rules (frame_of pending.entry) level) }
-    ensures rest { IfOk result (λ level. level.rest.now ≡ pending.entry.level.rest.now) }
+    ensures rest { IfOk result (λ level. rest_of level ≡ rest_of pending.entry.level) }
     ensures notes { (rules : Rules) → Suits rules place.now → OnOk result (notes.new ≡ notes.old ++ notes_of rules (frame_of pending.entry) pending.entry.done) }
 {
     let args = Args {
