@@ -174,10 +174,10 @@ head g n = Some (record { goal = g; next = n })
 abbrev ways : ℕ → ℕ → Option Ways
 ways a b = Some (record { named = a; other = b })
 
-abbrev nowhere : Place
+abbrev pub nowhere : Place
 nowhere = record { edges = []; label = None; bar = None; corner = None; turning = None; named = false; home = 0; ends = []; items = [] }
 
-abbrev nothing : Goal
+abbrev pub nothing : Goal
 nothing = record { kinds = []; openers = []; suffixes = []; firsts = []; goes = [] }
 
 abbrev row : List Edge → Option Label → Option Terminal → Option Head → Option Ways → Bool → ℕ → List Class → List Item → Place
@@ -207,11 +207,11 @@ starts = ''' + ' ∷ '.join([str(START[i]) for i in range(len(PRODS))] + ['[]'])
 
 abbrev pub number : Nonterminal → ℕ
 ''' + ''.join(f'number nt.{g} = {i}\n' for i, g in enumerate(GOALS)) + '''
-abbrev place_of : Option Place → Place
+abbrev pub place_of : Option Place → Place
 place_of None = nowhere
 place_of (Some p) = p
 
-abbrev goal_of : Option Goal → Goal
+abbrev pub goal_of : Option Goal → Goal
 goal_of None = nothing
 goal_of (Some g) = g
 
@@ -226,6 +226,9 @@ edges q = (place q).edges
 
 unfoldable pub name_of : ℕ → Option Label
 name_of q = (place q).label
+
+unfoldable pub bar_of : ℕ → Option Terminal
+bar_of q = (place q).bar
 
 unfoldable pub bars : ℕ → List Class
 bars q = barred (place q).bar

@@ -36,7 +36,7 @@ on_some f (Some x) = f x
 pub some_is : {X : Type 0} {x y : X} → Some x ≡ Some y → x ≡ y
 some_is e = cc
 
-none_not : {X : Type 0} {x : X} → None ≡ Some x → ⊥
+pub none_not : {X : Type 0} {x : X} → None ≡ Some x → ⊥
 none_not e = cc
 
 pub when_use : (a b : Bool) → when a b ≡ true → a ≡ true → b ≡ true

@@ -10,36 +10,45 @@ use Rattle.cl_tree.specs.declared.grammar.Symbol.TheVariants.{Token, Node}
 use Rattle.cl_tree.specs.declared.grammar.Separator.{Separator}
 use Rattle.cl_expr.specs.declared.table.Edge.{Edge}
 use Rattle.cl_expr.specs.declared.table.Head.{Head}
+use Rattle.cl_expr.specs.declared.table.Ways.{Ways}
 use Rattle.cl_expr.specs.declared.table.Label.{Label}
-use Rattle.cl_expr.specs.Table.{edges, name_of, bars, is_named, turning, turned, turn, home, corner, kinds, openers, suffixes, firsts, ends, goes}
+use Rattle.cl_expr.specs.Table.{Place, places, nowhere, place, goal, goals, number, edges, name_of, bars, is_named, turning, turned, turn, home, corner, kinds, openers, suffixes, firsts, ends, goes}
 use Rattle.cl_tree.specs.Derives.{Has}
-use Rattle.cl_expr.specs.Parses.{Begins, Enters}
-use Rattle.cl_expr.proofs.All.{all_classes, has_class, class_number, same_class_is, all_goals, has_goal, goal_number, same_goal_is, all_places, has_place, place_number, same_place_is}
-use Rattle.cl_expr.proofs.Checks.{every, some, pairwise, member, when, is_some, on_some, when_use, not_use, some_true, none_is, none_true, on_some_use, some_is, every_has, every_at, some_at, pairwise_one, has_member, member_left, member_right, member_has, every_member}
+use Rattle.cl_expr.specs.Parses.{BeginsSymbol, Begins, Enters}
+use Rattle.cl_tree.specs.Grammar.{takes}
+use Rattle.cl_expr.proofs.All.{all_goals, numbered_goal, class_number, same_class_is, same_goal_is}
+use Rattle.cl_expr.proofs.Checks.{every, some, pairwise, member, when, is_some, on_some, when_use, not_use, some_true, none_is, none_true, none_not, on_some_use, some_is, every_has, every_at, some_at, pairwise_one, has_member, member_left, member_right, member_has, every_member}
 
 abbrev among : Class → List Class → Bool
 among k ks = member class_number k ks
 
-abbrev kind_in : ℕ → List ℕ → Bool
+-- places are numbers
+abbrev pub place_number : ℕ → ℕ
+place_number q = q
+
+same_place_is : (x y : ℕ) → place_number x ≡ place_number y → x ≡ y
+same_place_is x y e = e
+
+abbrev pub kind_in : ℕ → List ℕ → Bool
 kind_in z zs = member place_number z zs
 
-abbrev beginners : Symbol → List Class
-beginners (Token c) = c ∷ []
-beginners (Node g) = firsts g
+abbrev beginners_symbol : Symbol → List Class
+beginners_symbol (Token c a) = takes c
+beginners_symbol (Node g) = firsts g
+
+abbrev beginners : Option Separator → Symbol → List Class
+beginners None x = beginners_symbol x
+beginners (Some b) x = b.class ∷ []
 
 abbrev beginners_of : List Edge → List Class
 beginners_of [] = []
-beginners_of (e ∷ es) = beginners e.symbol ++ beginners_of es
+beginners_of (e ∷ es) = beginners e.before e.symbol ++ beginners_of es
 
 abbrev entering : ℕ → List Class
 entering q = beginners_of (edges q)
 
-abbrev ways : Symbol → List ℕ
-ways (Token c) = 0 ∷ []
-ways (Node g) = kinds g
-
 abbrev goes_of : Symbol → List Class
-goes_of (Token c) = []
+goes_of (Token c a) = []
 goes_of (Node g) = goes g
 
 abbrev apart : List Class → List Class → Bool
@@ -51,27 +60,32 @@ within xs ys = every (λ k. among k ys) xs
 abbrev meets : List ℕ → List ℕ → Bool
 meets xs ys = some (λ y. kind_in y ys) xs
 
+-- of each edge and each place that it may lead to
+abbrev after : (Edge → ℕ → Bool) → Edge → Option Ways → Bool
+after f e None = f e e.next
+after f e (Some w) = f e w.named && f e w.other
+
 abbrev steps : (Edge → ℕ → Bool) → ℕ → Bool
-steps f q = every (λ e. every (λ y. f e y) (ways e.symbol)) (edges q)
+steps f q = every (λ e. after f e (turning e.next)) (edges q)
 
 -- the kinds of a symbol's parts
 abbrev pub Way : Symbol → ℕ → Type 0
-Way (Token c) y = y ≡ 0
+Way (Token c a) y = y ≡ 0
 Way (Node g) y = Has (kinds g) y
 
-way_has : (s : Symbol) (y : ℕ) → Way s y → Has (ways s) y
-way_has (Token c) y w = (0, ap Some (sym w))
-way_has (Node g) y w = w
+symbol_among : (s : Symbol) (k : Class) → BeginsSymbol s k → among k (beginners_symbol s) ≡ true
+symbol_among (Token c a) k b = has_member class_number k (takes c) b.0 b.1
+symbol_among (Node g) k b = has_member class_number k (firsts g) b.0 b.1
 
-begins_among : (s : Symbol) (k : Class) → Begins s k → among k (beginners s) ≡ true
-begins_among (Token c) k b = has_member class_number k (c ∷ []) 0 (ap Some b)
-begins_among (Node g) k b = has_member class_number k (firsts g) b.0 b.1
+begins_among : (b : Option Separator) (s : Symbol) (k : Class) → Begins b s k → among k (beginners b s) ≡ true
+begins_among None s k b = symbol_among s k b
+begins_among (Some o) s k b = has_member class_number k (o.class ∷ []) 0 (ap Some b)
 
-enters_of : (es : List Edge) (k : Class) (i : ℕ) (e : Edge) → slice_get es i ≡ Some e → Begins e.symbol k → among k (beginners_of es) ≡ true
+enters_of : (es : List Edge) (k : Class) (i : ℕ) (e : Edge) → slice_get es i ≡ Some e → Begins e.before e.symbol k → among k (beginners_of es) ≡ true
 enters_of [] k i e h b = absurd (not_use true (cc) refl)
 enters_of (x ∷ es) k zero e h b =
-    member_left class_number k (beginners x.symbol) (beginners_of es) (begins_among x.symbol k (subst (λ (v : Edge). Begins v.symbol k) (sym (some_is h)) b))
-enters_of (x ∷ es) k (suc i) e h b = member_right class_number k (beginners x.symbol) (beginners_of es) (enters_of es k i e h b)
+    member_left class_number k (beginners x.before x.symbol) (beginners_of es) (begins_among x.before x.symbol k (subst (λ (v : Edge). Begins v.before v.symbol k) (sym (some_is h)) b))
+enters_of (x ∷ es) k (suc i) e h b = member_right class_number k (beginners x.before x.symbol) (beginners_of es) (enters_of es k i e h b)
 
 enters_among : (q : ℕ) (k : Class) → Enters q k → among k (entering q) ≡ true
 enters_among q k n = enters_of (edges q) k n.1.0 n.0 n.1.1 n.2
@@ -91,41 +105,47 @@ within_use xs ys k t a = among_has k ys (every_member class_number same_class_is
 meets_use : (xs ys : List ℕ) (z : ℕ) → Has xs z → Has ys z → meets xs ys ≡ true
 meets_use xs ys z a b = some_at (λ y. kind_in y ys) xs a.0 z a.1 (has_member place_number z ys b.0 b.1)
 
-steps_use : (f : Edge → ℕ → Bool) (q : ℕ) → steps f q ≡ true → (e : Edge) (y : ℕ) → Has (edges q) e → Way e.symbol y → f e y ≡ true
-steps_use f q t e y h w = every_has (λ v. f e v) (ways e.symbol) (every_has (λ x. every (λ v. f x v) (ways x.symbol)) (edges q) t e h) y (way_has e.symbol y w)
+after_use : (f : Edge → ℕ → Bool) (e : Edge) (o : Option Ways) (b : Bool) → after f e o ≡ true → f e (turned o e.next b) ≡ true
+after_use f e None b t = t
+after_use f e (Some w) true t = (and_parts (f e w.named) (f e w.other) t).0
+after_use f e (Some w) false t = (and_parts (f e w.named) (f e w.other) t).1
+
+steps_use : (f : Edge → ℕ → Bool) (q : ℕ) → steps f q ≡ true → (e : Edge) (y : ℕ) → Has (edges q) e → f e (turn e.next y) ≡ true
+unfolding turn
+steps_use f q t e y h = after_use f e (turning e.next) (is_named y) (every_has (λ v. after f v (turning v.next)) (edges q) t e h)
 
 -- the checks
 abbrev c_apart : ℕ → Bool
-c_apart q = pairwise (λ e d. apart (beginners e.symbol) (beginners d.symbol)) (edges q)
+c_apart q = pairwise (λ e d. apart (beginners e.before e.symbol) (beginners d.before d.symbol)) (edges q)
 
 abbrev c_more : ℕ → Bool
 c_more q = when (is_some (name_of q)) (every (λ k. among k (bars q) || among k (ends q)) (entering q))
 
 abbrev c_on : ℕ → Bool
-c_on q = steps (λ e y. within (ends (turn e.next y)) (ends q)) q
+c_on q = steps (λ e n. within (ends n) (ends q)) q
 
 abbrev c_held : ℕ → Bool
-c_held q = steps (λ e y. when (is_some (name_of (turn e.next y))) (every (λ k. among k (bars (turn e.next y)) || among k (ends q)) (goes_of e.symbol))) q
+c_held q = steps (λ e n. when (is_some (name_of n)) (every (λ k. among k (bars n) || among k (ends q)) (goes_of e.symbol))) q
 
 abbrev c_shut : ℕ → Bool
-c_shut q = when (not (is_some (corner q))) (steps (λ e y. apart (entering (turn e.next y)) (goes_of e.symbol)) q)
+c_shut q = when (not (is_some (corner q))) (steps (λ e n. apart (entering n) (goes_of e.symbol)) q)
 
 abbrev c_homes : ℕ → Bool
-c_homes q = steps (λ e y. eqb (place_number (home (turn e.next y))) (place_number (home q))) q
+c_homes q = steps (λ e n. eqb (place_number (home n)) (place_number (home q))) q
 
 abbrev c_plain : ℕ → Bool
-c_plain q = steps (λ e y. not (is_some (corner (turn e.next y)))) q
+c_plain q = steps (λ e n. not (is_some (corner n))) q
 
 abbrev c_unnamed : ℕ → Bool
 c_unnamed q = not (is_some (name_of (home q)))
 
 abbrev symbol_is : Symbol → Nonterminal → Bool
-symbol_is (Token c) g = false
-symbol_is (Node b) g = eqb (goal_number b) (goal_number g)
+symbol_is (Token c a) g = false
+symbol_is (Node b) g = eqb (number b) (number g)
 
 abbrev lone : Head → List Edge → Bool
 lone c [] = false
-lone c (e ∷ []) = symbol_is e.symbol c.goal && eqb (place_number e.next) (place_number c.next)
+lone c (e ∷ []) = symbol_is e.symbol c.goal && (eqb (place_number e.next) (place_number c.next) && not (is_some e.before))
 lone c (e ∷ d ∷ es) = false
 
 abbrev c_corner : ℕ → Bool
@@ -164,19 +184,95 @@ c_suffixes g = pairwise (λ s d. on_some (λ a. on_some (λ b. when (meets (kind
 abbrev c_goes : Nonterminal → Bool
 c_goes g = every (λ s. on_some (λ c. when (meets (kinds c.goal) (kinds g)) (within (entering c.next) (goes g))) (corner s)) (suffixes g)
 
-abbrev c_place : ℕ → Bool
-c_place q = c_apart q && (c_more q && (c_on q && (c_held q && (c_shut q && (c_homes q && (c_plain q && (c_unnamed q && (c_corner q && c_left q))))))))
-
 abbrev c_goal : Nonterminal → Bool
 c_goal g = c_top g && (c_firsts g && (c_reach g && (c_reach_left g && (c_openers g && (c_opener g && (c_suffix g && (c_suffixes g && c_goes g)))))))
 
-places_checked : every c_place all_places ≡ true
-unfolding edges name_of bars is_named turning turn home corner kinds openers suffixes firsts ends goes
-places_checked = refl
+-- the number of a place, and the numbers of all of them
+abbrev pub numbers : ℕ → List Place → List ℕ
+numbers n [] = []
+numbers n (p ∷ ps) = n ∷ numbers (n + 1) ps
+
+abbrev pub every_place : (ℕ → Bool) → Bool
+every_place f = every f (numbers 0 places)
+
+numbers_have : (ps : List Place) (n i : ℕ) (p : Place) → slice_get ps i ≡ Some p → Has (numbers n ps) (n + i)
+numbers_have [] n i p e = absurd (none_not e)
+numbers_have (x ∷ ps) n zero p e = (0, ap Some (omega arith))
+numbers_have (x ∷ ps) n (suc i) p e =
+    let h = numbers_have ps (n + 1) i p e in
+    let same : (n + 1) + i ≡ n + suc i = omega arith in
+    (suc h.0, h.1 ∙ ap Some same)
+
+places_apart : every_place c_apart ≡ true
+unfolding places place edges firsts goal goals
+places_apart = refl
+
+places_more : every_place c_more ≡ true
+unfolding places place edges name_of bars ends firsts goal goals
+places_more = refl
+
+places_on : every_place c_on ≡ true
+unfolding places place edges turning ends
+places_on = refl
+
+places_held : every_place c_held ≡ true
+unfolding places place edges turning name_of bars ends goes goal goals
+places_held = refl
+
+places_shut : every_place c_shut ≡ true
+unfolding places place edges turning corner firsts goes goal goals
+places_shut = refl
+
+places_homes : every_place c_homes ≡ true
+unfolding places place edges turning home
+places_homes = refl
+
+places_plain : every_place c_plain ≡ true
+unfolding places place edges turning corner
+places_plain = refl
+
+places_unnamed : every_place c_unnamed ≡ true
+unfolding places place name_of home
+places_unnamed = refl
+
+places_corner : every_place c_corner ≡ true
+unfolding places place edges turning name_of corner home
+places_corner = refl
+
+places_left : every_place c_left ≡ true
+unfolding places place edges corner home ends firsts kinds goal goals
+places_left = refl
 
 goals_checked : every c_goal all_goals ≡ true
-unfolding edges name_of bars is_named turning turn home corner kinds openers suffixes firsts ends goes
+unfolding places place edges name_of bars is_named turning turn home corner kinds openers suffixes firsts ends goes goal goals
 goals_checked = refl
+
+-- a place that the table doesn't have is nowhere
+abbrev Everywhere : (ℕ → Bool) → Type 0
+Everywhere f = (q : ℕ) → f q ≡ true
+
+pub either : (q : ℕ) → (place q ≡ nowhere) ⊎ Has (numbers 0 places) q
+unfolding place
+either q = go (slice_get places q) refl
+  where
+    go : (o : Option Place) → slice_get places q ≡ o → (place q ≡ nowhere) ⊎ Has (numbers 0 places) q
+    go None e = inl (rw e refl)
+    go (Some p) e = inr (let h = numbers_have places 0 q p e in let same : 0 + q ≡ q = omega arith in (h.0, h.1 ∙ ap Some same))
+
+-- what a place is as far as the checks go
+record Looks (q : ℕ) : Type 0 where
+  edges_none : edges q ≡ []
+  label_none : name_of q ≡ None
+  corner_none : corner q ≡ None
+  home_first : home q ≡ 0
+
+looks : (q : ℕ) → place q ≡ nowhere → Looks q
+unfolding edges name_of corner home
+looks q e = record { edges_none = ap (λ (p : Place). p.edges) e; label_none = ap (λ (p : Place). p.label) e; corner_none = ap (λ (p : Place). p.corner) e; home_first = ap (λ (p : Place). p.home) e }
+
+first_unnamed : name_of 0 ≡ None
+unfolding places place name_of
+first_unnamed = refl
 
 and_first : (a b : Bool) → (a && b) ≡ true → a ≡ true
 and_first a b t = (and_parts a b t).0
@@ -197,17 +293,17 @@ record PlaceFacts (q : ℕ) : Type 0 where
   left : c_left q ≡ true
 
 place_facts : (q : ℕ) → PlaceFacts q
-place_facts q =
-    let a = and_parts (c_apart q) _ (every_has c_place all_places places_checked q (has_place q)) in
-    let b = and_parts (c_more q) _ a.1 in
-    let c = and_parts (c_on q) _ b.1 in
-    let d = and_parts (c_held q) _ c.1 in
-    let e = and_parts (c_shut q) _ d.1 in
-    let f = and_parts (c_homes q) _ e.1 in
-    let g = and_parts (c_plain q) _ f.1 in
-    let h = and_parts (c_unnamed q) _ g.1 in
-    let i = and_parts (c_corner q) (c_left q) h.1 in
-    record { apart = a.0; more = b.0; on = c.0; held = d.0; shut = e.0; homes = f.0; plain = g.0; unnamed = h.0; corner = i.0; left = i.1 }
+place_facts q = elim (either q) [
+    inl none ↦ (let l = looks q none in record {
+      apart = rw l.edges_none refl; more = rw l.label_none refl; on = rw l.edges_none refl; held = rw l.edges_none refl; shut = rw (l.corner_none, l.edges_none) refl;
+      homes = rw l.edges_none refl; plain = rw l.edges_none refl; unnamed = rw (l.home_first, first_unnamed) refl; corner = rw l.corner_none refl; left = rw l.corner_none refl;
+    })
+    | inr h ↦ record {
+      apart = every_has c_apart (numbers 0 places) places_apart q h; more = every_has c_more (numbers 0 places) places_more q h; on = every_has c_on (numbers 0 places) places_on q h;
+      held = every_has c_held (numbers 0 places) places_held q h; shut = every_has c_shut (numbers 0 places) places_shut q h; homes = every_has c_homes (numbers 0 places) places_homes q h;
+      plain = every_has c_plain (numbers 0 places) places_plain q h; unnamed = every_has c_unnamed (numbers 0 places) places_unnamed q h; corner = every_has c_corner (numbers 0 places) places_corner q h;
+      left = every_has c_left (numbers 0 places) places_left q h;
+    } ]
 
 record GoalFacts (g : Nonterminal) : Type 0 where
   top : c_top g ≡ true
@@ -222,7 +318,7 @@ record GoalFacts (g : Nonterminal) : Type 0 where
 
 goal_facts : (g : Nonterminal) → GoalFacts g
 goal_facts g =
-    let a = and_parts (c_top g) _ (every_has c_goal all_goals goals_checked g (has_goal g)) in
+    let a = and_parts (c_top g) _ (every_has c_goal all_goals goals_checked g (number g, numbered_goal g)) in
     let b = and_parts (c_firsts g) _ a.1 in
     let c = and_parts (c_reach g) _ b.1 in
     let d = and_parts (c_reach_left g) _ c.1 in
@@ -233,10 +329,10 @@ goal_facts g =
     record { top = a.0; firsts = b.0; reach = c.0; reach_left = d.0; openers = e.0; opener = f.0; suffix = i.0; suffixes = h.0; goes = h.1 }
 
 -- one token begins one thing at a place
-pub one_edge : (q : ℕ) (e d : Edge) (k : Class) → Has (edges q) e → Begins e.symbol k → Has (edges q) d → Begins d.symbol k → e ≡ d
+pub one_edge : (q : ℕ) (e d : Edge) (k : Class) → Has (edges q) e → Begins e.before e.symbol k → Has (edges q) d → Begins d.before d.symbol k → e ≡ d
 one_edge q e d k he be hd bd =
-    pairwise_one (λ x y. apart (beginners x.symbol) (beginners y.symbol)) (λ x. Begins x.symbol k)
-      (λ x y t a b. apart_use (beginners x.symbol) (beginners y.symbol) k t (begins_among x.symbol k a) (begins_among y.symbol k b))
+    pairwise_one (λ x y. apart (beginners x.before x.symbol) (beginners y.before y.symbol)) (λ x. Begins x.before x.symbol k)
+      (λ x y t a b. apart_use (beginners x.before x.symbol) (beginners y.before y.symbol) k t (begins_among x.before x.symbol k a) (begins_among y.before y.symbol k b))
       (edges q) (place_facts q).apart he.0 hd.0 e d he.1 hd.1 be bd
 
 -- a token that goes on where a production may end is known to
@@ -248,15 +344,14 @@ more q k n m e b =
 
 pub on : (q : ℕ) (e : Edge) (y : ℕ) (k : Class) → Has (edges q) e → Way e.symbol y → Has (ends (turn e.next y)) k → Has (ends q) k
 on q e y k h w has =
-    within_use (ends (turn e.next y)) (ends q) k (steps_use (λ d v. within (ends (turn d.next v)) (ends q)) q (place_facts q).on e y h w) (has_among k (ends (turn e.next y)) has)
+    within_use (ends (turn e.next y)) (ends q) k (steps_use (λ d n. within (ends n) (ends q)) q (place_facts q).on e y h) (has_among k (ends (turn e.next y)) has)
 
 -- a token that goes on from a production's last part is known to
 pub held : (q : ℕ) (e : Edge) (g : Nonterminal) (y : ℕ) (k : Class) (n : Label) → Has (edges q) e → e.symbol ≡ Node g → Has (kinds g) y
     → name_of (turn e.next y) ≡ Some n → (Has (bars (turn e.next y)) k → ⊥) → Has (goes g) k → Has (ends q) k
 held q e g y k n h s w m b has =
-    let f = λ (d : Edge) (v : ℕ). when (is_some (name_of (turn d.next v))) (every (λ u. among u (bars (turn d.next v)) || among u (ends q)) (goes_of d.symbol)) in
-    let way : Way e.symbol y = subst (λ (x : Symbol). Way x y) (sym s) w in
-    let t = when_use (is_some (name_of (turn e.next y))) _ (steps_use f q (place_facts q).held e y h way) (some_true (name_of (turn e.next y)) n m) in
+    let f = λ (d : Edge) (v : ℕ). when (is_some (name_of v)) (every (λ u. among u (bars v) || among u (ends q)) (goes_of d.symbol)) in
+    let t = when_use (is_some (name_of (turn e.next y))) _ (steps_use f q (place_facts q).held e y h) (some_true (name_of (turn e.next y)) n m) in
     let t' : every (λ u. among u (bars (turn e.next y)) || among u (ends q)) (goes g) ≡ true
           = subst (λ (x : Symbol). every (λ u. among u (bars (turn e.next y)) || among u (ends q)) (goes_of x) ≡ true) s t in
     elim (or_cases (among k (bars (turn e.next y))) (among k (ends q)) (every_has (λ u. among u (bars (turn e.next y)) || among u (ends q)) (goes g) t' k has)) [
@@ -266,45 +361,45 @@ held q e g y k n h s w m b has =
 pub shut : (q : ℕ) (e : Edge) (g : Nonterminal) (y : ℕ) (k : Class) → corner q ≡ None → Has (edges q) e → e.symbol ≡ Node g → Has (kinds g) y
     → Enters (turn e.next y) k → Has (goes g) k → ⊥
 shut q e g y k none h s w n has =
-    let f = λ (d : Edge) (v : ℕ). apart (entering (turn d.next v)) (goes_of d.symbol) in
-    let way : Way e.symbol y = subst (λ (x : Symbol). Way x y) (sym s) w in
-    let t = steps_use f q (when_use (not (is_some (corner q))) _ (place_facts q).shut (none_true (corner q) none)) e y h way in
+    let f = λ (d : Edge) (v : ℕ). apart (entering v) (goes_of d.symbol) in
+    let t = steps_use f q (when_use (not (is_some (corner q))) _ (place_facts q).shut (none_true (corner q) none)) e y h in
     let t' : apart (entering (turn e.next y)) (goes g) ≡ true = subst (λ (x : Symbol). apart (entering (turn e.next y)) (goes_of x) ≡ true) s t in
     apart_use (entering (turn e.next y)) (goes g) k t' (enters_among (turn e.next y) k n) (has_among k (goes g) has)
 
 pub home_next : (q : ℕ) (e : Edge) (y : ℕ) → Has (edges q) e → Way e.symbol y → home (turn e.next y) ≡ home q
 home_next q e y h w =
-    same_place_is (home (turn e.next y)) (home q) (eqb-true _ _ (steps_use (λ d v. eqb (place_number (home (turn d.next v))) (place_number (home q))) q (place_facts q).homes e y h w))
+    same_place_is (home (turn e.next y)) (home q) (eqb-true _ _ (steps_use (λ d v. eqb (place_number (home v)) (place_number (home q))) q (place_facts q).homes e y h))
 
 pub plain_next : (q : ℕ) (e : Edge) (y : ℕ) → Has (edges q) e → Way e.symbol y → corner (turn e.next y) ≡ None
-plain_next q e y h w = none_is (corner (turn e.next y)) (steps_use (λ d v. not (is_some (corner (turn d.next v)))) q (place_facts q).plain e y h w)
+plain_next q e y h w = none_is (corner (turn e.next y)) (steps_use (λ d v. not (is_some (corner v))) q (place_facts q).plain e y h)
 
 pub no_name : (q : ℕ) (n : Label) → name_of (home q) ≡ Some n → ⊥
 no_name q n e = not_use (is_some (name_of (home q))) (place_facts q).unnamed (some_true (name_of (home q)) n e)
 
 -- a production that begins with a left part
 pub record Cornered (s : ℕ) (c : Head) : Type 0 where
-  pub edge : (e : Edge) → Has (edges s) e → (e.symbol ≡ Node c.goal) × (e.next ≡ c.next)
-  pub some_edge : (e : Edge) × Has (edges s) e × (e.symbol ≡ Node c.goal) × (e.next ≡ c.next)
+  pub edge : (e : Edge) → Has (edges s) e → (e.symbol ≡ Node c.goal) × (e.next ≡ c.next) × (e.before ≡ None)
+  pub some_edge : (e : Edge) × Has (edges s) e × (e.symbol ≡ Node c.goal) × (e.next ≡ c.next) × (e.before ≡ None)
   pub turn : (y : ℕ) → turn c.next y ≡ c.next
   pub unnamed : name_of c.next ≡ None
   pub plain : corner c.next ≡ None
   pub home : home c.next ≡ home s
 
 symbol_goal : (s : Symbol) (g : Nonterminal) → symbol_is s g ≡ true → s ≡ Node g
-symbol_goal (Token c) g t = absurd (false≢true t)
-symbol_goal (Node b) g t = ap Node (same_goal_is b g (eqb-true (goal_number b) (goal_number g) t))
+symbol_goal (Token c a) g t = absurd (false≢true t)
+symbol_goal (Node b) g t = ap Node (same_goal_is b g (eqb-true (number b) (number g) t))
 
 Lone : Head → Edge → Type 0
-Lone c e = (e.symbol ≡ Node c.goal) × (e.next ≡ c.next)
+Lone c e = (e.symbol ≡ Node c.goal) × (e.next ≡ c.next) × (e.before ≡ None)
 
-lone_edge : (c : Head) (es : List Edge) → lone c es ≡ true → (i : ℕ) (e : Edge) → slice_get es i ≡ Some e → (e.symbol ≡ Node c.goal) × (e.next ≡ c.next)
+lone_edge : (c : Head) (es : List Edge) → lone c es ≡ true → (i : ℕ) (e : Edge) → slice_get es i ≡ Some e → (e.symbol ≡ Node c.goal) × (e.next ≡ c.next) × (e.before ≡ None)
 lone_edge c [] t i e h = absurd (false≢true t)
 lone_edge c (d ∷ []) t zero e h =
-    let p = and_parts (symbol_is d.symbol c.goal) (eqb (place_number d.next) (place_number c.next)) t in
+    let p = and_parts (symbol_is d.symbol c.goal) _ t in
+    let r = and_parts (eqb (place_number d.next) (place_number c.next)) (not (is_some d.before)) p.1 in
     let same : d ≡ e = some_is h in
-    subst (λ (x : Edge). (x.symbol ≡ Node c.goal) × (x.next ≡ c.next)) same
-      (symbol_goal d.symbol c.goal p.0, same_place_is d.next c.next (eqb-true (place_number d.next) (place_number c.next) p.1))
+    subst (λ (x : Edge). (x.symbol ≡ Node c.goal) × (x.next ≡ c.next) × (x.before ≡ None)) same
+      (symbol_goal d.symbol c.goal p.0, same_place_is d.next c.next (eqb-true (place_number d.next) (place_number c.next) r.0), none_is d.before r.1)
 lone_edge c (d ∷ []) t (suc i) e h = absurd (cc)
 lone_edge c (d ∷ f ∷ es) t i e h = absurd (false≢true t)
 
@@ -328,7 +423,7 @@ cornered s c e =
     let l = lone_some c (edges s) a.0 in
     record {
       edge = λ x h. lone_edge c (edges s) a.0 h.0 x h.1;
-      some_edge = (let o = lone_edge c (edges s) a.0 l.1.0 l.0 l.1.1 in (l.0, l.1, o.0, o.1));
+      some_edge = (let o = lone_edge c (edges s) a.0 l.1.0 l.0 l.1.1 in (l.0, l.1, o.0, o.1, o.2));
       turn = λ y. turn_plain c.next y (none_is (turning c.next) b.0);
       unnamed = none_is (name_of c.next) d.0; plain = none_is (corner c.next) g.0;
       home = same_place_is (home c.next) (home s) (eqb-true (place_number (home c.next)) (place_number (home s)) g.1);

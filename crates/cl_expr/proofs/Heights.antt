@@ -101,7 +101,7 @@ FirstOf cs h = (g : Nonterminal) (z : ℕ) (sa : Scope) (t : Tree) (sw : Scope) 
 
 symbol_by : (cs : List Lexeme) (h : ℕ) → FirstOf cs h
     → (x : Symbol) (y : ℕ) (sa : Scope) (at : ℕ) (p : Tree) (sw : Scope) → Reads (At cs h) h cs x y sa at p sw → First cs sa at (BeginsSymbol x)
-symbol_by cs h f (Token c a) y sa at p sw r = record { class = r.3.0; token = r.3.1.0; begins = r.3.1.1 }
+symbol_by cs h f (Token c a) y sa at p sw r = record { class = r.3.0; token = r.3.1; begins = r.3.2 }
 symbol_by cs h f (Node b) y sa at p sw r =
     let o = f b y sa p sw r.0 in
     record { class = o.class; token = subst (λ (i : ℕ). class_at cs sa i ≡ Some o.class) r.1 o.token; begins = o.begins }

@@ -52,10 +52,15 @@ module _ (cs : List Lexeme) (h : ℕ) (one : One cs h) where
       let same : f.class ≡ k = some_is (sym f.token ∙ t) in
       shut q e g y k plain has is w (subst (Enters (turn e.next y)) same f.begins) goes)
 
-  one_part : (s : Symbol) (nx y x : ℕ) (sa : Scope) (at : ℕ) (p r : Tree) (w v : Scope) → Reads (At cs h) h cs s nx y sa at p w → Reads (At cs h) h cs s nx x sa at r v
-      → StopsSymbol cs w s (end p) → StopsSymbol cs v s (end r) → (p ≡ r) × (y ≡ x) × (w ≡ v)
-  one_part (Token c) nx y x sa at p r w v a b s s' = (a.2 ∙ sym b.2, a.0 ∙ sym b.0, a.4 ∙ sym b.4)
-  one_part (Node g) nx y x sa at p r w v a b s s' = one g sa p r y x w v a.0 b.0 (a.1 ∙ sym b.1) s s'
+  one_symbol : (s : Symbol) (y x : ℕ) (sm : Scope) (at : ℕ) (p r : Tree) (sp sr : Scope) → Reads (At cs h) h cs s y sm at p sp → Reads (At cs h) h cs s x sm at r sr
+      → StopsSymbol cs sp s (end p) → StopsSymbol cs sr s (end r) → (p ≡ r) × (y ≡ x) × (sp ≡ sr)
+  one_symbol (Token c k) y x sm at p r sp sr a b s s' = (a.2 ∙ sym b.2, a.0 ∙ sym b.0, a.4 ∙ sym b.4)
+  one_symbol (Node g) y x sm at p r sp sr a b s s' = one g sm p r y x sp sr a.0 b.0 (a.1 ∙ sym b.1) s s'
+
+  one_part : (o : Option Separator) (s : Symbol) (y x : ℕ) (sm : Scope) (at : ℕ) (p r : Tree) (sp sr : Scope) → ReadsAfter (At cs h) h cs o s y sm at p sp → ReadsAfter (At cs h) h cs o s x sm at r sr
+      → StopsSymbol cs sp s (end p) → StopsSymbol cs sr s (end r) → (p ≡ r) × (y ≡ x) × (sp ≡ sr)
+  one_part None s y x sm at p r sp sr a b e e' = one_symbol s y x sm at p r sp sr a b e e'
+  one_part (Some o) s y x sm at p r sp sr a b e e' = one_symbol s y x (pass cs sm o.act at) (at + 1) p r sp sr a.1 b.1 e e'
 
   -- where one path ends and another goes on
   no_end : (q : ℕ) (sm : Scope) (at to to' : ℕ) (z x : ℕ) (sv sx : Scope) (n : Label) (r : Tree) (rs : List Tree) → (at ≡ to) × (q ≡ z) × (sm ≡ sv) → Ended cs sv z to n → Halts cs sv q to
@@ -75,8 +80,8 @@ module _ (cs : List Lexeme) (h : ℕ) (one : One cs h) where
       let f = reads_first cs h a.0.before a.0.symbol a.1 sm at p a.2 a.4 in
       let g = reads_first cs h b.0.before b.0.symbol b.1 sm at r b.2 b.4 in
       let class_is : g.class ≡ f.class = some_is (sym g.token ∙ f.token) in
-      let edge_is : b.0 ≡ a.0 = one_edge q b.0 a.0 f.class b.3 (subst (Begins b.0.symbol) class_is g.begins) a.3 f.begins in
-      let reads : Reads (At cs h) h cs a.0.before a.0.symbol b.1 sm at r b.2 = subst (λ (d : Edge). Reads (At cs h) h cs d.before d.symbol b.1 sm at r b.2) edge_is b.4 in
+      let edge_is : b.0 ≡ a.0 = one_edge q b.0 a.0 f.class b.3 (subst (Begins b.0.before b.0.symbol) class_is g.begins) a.3 f.begins in
+      let reads : ReadsAfter (At cs h) h cs a.0.before a.0.symbol b.1 sm at r b.2 = subst (λ (d : Edge). ReadsAfter (At cs h) h cs d.before d.symbol b.1 sm at r b.2) edge_is b.4 in
       let path : Path (At cs h) h cs (turn a.0.next b.1) b.2 (end r) to' rs x sx = subst (λ (d : Edge). Path (At cs h) h cs (turn d.next b.1) b.2 (end r) to' rs x sx) edge_is b.5 in
       let wa : Way a.0.symbol a.1 = way_of cs h a.0.before a.0.symbol a.1 sm at p a.2 a.4 in
       let wb : Way a.0.symbol b.1 = way_of cs h a.0.before a.0.symbol b.1 sm at r b.2 reads in
@@ -103,14 +108,12 @@ module _ (cs : List Lexeme) (h : ℕ) (one : One cs h) where
       let home_is : home x ≡ home z = one_opener g (home x) (home z) ft.class ox (subst (Enters (home x)) class_is fu.begins) oz ft.begins in
       let ka = kind_of cs h z sa t w a in
       let kb = kind_of cs h x sa u y b in
-      let pb : Path (At cs h) h cs (home z) sa (start t) (end u) (parts u) x kb.0
-            = subst (λ (v : ℕ). Path (At cs h) h cs v sa (start t) (end u) (parts u) x kb.0) home_is (subst (λ (i : ℕ). Path (At cs h) h cs (home x) sa i (end u) (parts u) x kb.0) (sym e) kb.2) in
-      let same = one_path (parts t) (parts u) (home z) sa (start t) (end t) (end u) z x ka.0 kb.0 (name t) (name u) (opener g (home z) oz).1 ka.2 pb ka.1 kb.1
-            (settled cs sa ka.0 z t w (end t) ka.3 ht)
-            (subst (λ (v : ℕ). Halts cs kb.0 v (end u)) home_is (settled cs sa kb.0 x u y (end u) kb.3 hu)) in
-      let name_is : name t ≡ name u = some_is (sym ka.1.0 ∙ ap name_of same.2 ∙ kb.1.0) in
-      let tree_is : t ≡ u = same_node t u name_is e same.1 same.0 in
-      (tree_is, same.2, ka.3 ∙ (λ i. leave cs sa (same.3 i) (same.2 i) (tree_is i)) ∙ sym kb.3)
+      let pb : Path (At cs h) h cs (home z) sa (start t) (end u) (parts u) x y
+            = subst (λ (v : ℕ). Path (At cs h) h cs v sa (start t) (end u) (parts u) x y) home_is (subst (λ (i : ℕ). Path (At cs h) h cs (home x) sa i (end u) (parts u) x y) (sym e) kb.1) in
+      let same = one_path (parts t) (parts u) (home z) sa (start t) (end t) (end u) z x w y (name t) (name u) (opener g (home z) oz).1 ka.1 pb ka.0 kb.0
+            ht (subst (λ (v : ℕ). Halts cs y v (end u)) home_is hu) in
+      let name_is : name t ≡ name u = some_is (sym ka.0.0 ∙ ap name_of same.2 ∙ kb.0.0) in
+      (same_node t u name_is e same.1 same.0, same.2, same.3)
 
   one_next : (g : Nonterminal) (sa : Scope) (a : Tree) (y : ℕ) (sb : Scope) (t u : Tree) (z x : ℕ) (w v' : Scope) → Has (suffixes g) (home z) → Has (suffixes g) (home x)
       → Continues cs h sa a y sb t z w → Continues cs h sa a y sb u x v' → Halts cs w (home z) (end t) → Halts cs v' (home x) (end u) → (t ≡ u) × (z ≡ x) × (w ≡ v')
@@ -118,14 +121,12 @@ module _ (cs : List Lexeme) (h : ℕ) (one : One cs h) where
       let f = continued cs h sa a y sb t z w c in
       let home_is : home x ≡ home z = one_suffix g (home x) (home z) y f.class sx (continues_goes cs h sa a y sb u x v' f.class f.token d) sz (continues_goes cs h sa a y sb t z w f.class f.token c) in
       let corner_is : d.cornered ≡ c.cornered = some_is (sym d.is ∙ ap corner home_is ∙ c.is) in
-      let path : Path (At cs h) h cs c.cornered.next sb (end a) (end u) d.rest x d.last = subst (λ (v : Head). Path (At cs h) h cs v.next sb (end a) (end u) d.rest x d.last) corner_is d.path in
-      let hu' : Halts cs d.last c.cornered.next (end u) = halts_next (home z) c.cornered y d.last (end u) c.is c.takes.0
-            (subst (λ (v : ℕ). Halts cs d.last v (end u)) home_is (settled cs sa d.last x u v' (end u) d.leaves hu)) in
-      let same = one_path c.rest d.rest c.cornered.next sb (end a) (end t) (end u) z x c.last d.last (name t) (name u) (cornered (home z) c.cornered c.is).plain c.path path c.ended d.ended
-            (halts_next (home z) c.cornered y c.last (end t) c.is c.takes.0 (settled cs sa c.last z t w (end t) c.leaves ht)) hu' in
+      let path : Path (At cs h) h cs c.cornered.next sb (end a) (end u) d.rest x v' = subst (λ (v : Head). Path (At cs h) h cs v.next sb (end a) (end u) d.rest x v') corner_is d.path in
+      let hu' : Halts cs v' c.cornered.next (end u) = halts_next (home z) c.cornered y v' (end u) c.is c.takes.0 (subst (λ (v : ℕ). Halts cs v' v (end u)) home_is hu) in
+      let same = one_path c.rest d.rest c.cornered.next sb (end a) (end t) (end u) z x w v' (name t) (name u) (cornered (home z) c.cornered c.is).plain c.path path c.ended d.ended
+            (halts_next (home z) c.cornered y w (end t) c.is c.takes.0 ht) hu' in
       let name_is : name t ≡ name u = some_is (sym c.ended.0 ∙ ap name_of same.2 ∙ d.ended.0) in
-      let tree_is : t ≡ u = same_node t u name_is (sym c.from ∙ d.from) same.1 (c.parts_are ∙ ap (λ (v : List Tree). a ∷ v) same.0 ∙ sym d.parts_are) in
-      (tree_is, same.2, c.leaves ∙ (λ i. leave cs sa (same.3 i) (same.2 i) (tree_is i)) ∙ sym d.leaves)
+      (same_node t u name_is (sym c.from ∙ d.from) same.1 (c.parts_are ∙ ap (λ (v : List Tree). a ∷ v) same.0 ∙ sym d.parts_are), same.2, same.3)
 
   ended_spine : (g : Nonterminal) (sa : Scope) (a : Tree) (y : ℕ) (sb : Scope) (p : Tree) (x : ℕ) (w : Scope) → Has (kinds g) y → Stops cs sb g (end a) → Has (suffixes g) (home x) → Continues cs h sa a y sb p x w → ⊥
   ended_spine g sa a y sb p x w kind stops has c =
@@ -153,8 +154,8 @@ one_tree_of cs (suc h) g sa t u z x w y a b e st su =
     one_spine cs h one g sa c.spine (subst (λ (q : Tree). Spine cs h sa g q c.place c.state u x y) (sym same.0) (subst (λ (q : ℕ). Spine cs h sa g d.first q c.state u x y) (sym same.1)
       (subst (λ (q : Scope). Spine cs h sa g d.first d.place q u x y) (sym same.2) d.spine))) a.0 b.0 st su
 
-pub one_tree : (g : Nonterminal) (sa : Scope) (cs : List Lexeme) (t u : Tree) → Derives g sa cs t → Derives g sa cs u → t ≡ u
-one_tree g sa cs t u d e =
-    (one_tree_of cs 512 g sa t u d.kind e.kind d.left e.left d.at e.at (d.from ∙ sym e.from)
-      (λ k token has. (let l = class_within cs d.left (end t) k token in absurd (omega (arith, d.to, l))))
-      (λ k token has. (let l = class_within cs e.left (end u) k token in absurd (omega (arith, e.to, l))))).0
+pub one_whole : (g : Nonterminal) (cs : List Lexeme) (t u : Tree) → Whole g cs t → Whole g cs u → t ≡ u
+one_whole g cs t u d e =
+    (one_tree_of cs 512 g empty t u d.kind e.kind d.after e.after d.at e.at (d.from ∙ sym e.from)
+      (λ k token has. (let l = class_within cs d.after (end t) k token in absurd (omega (arith, d.to, l))))
+      (λ k token has. (let l = class_within cs e.after (end u) k token in absurd (omega (arith, e.to, l))))).0

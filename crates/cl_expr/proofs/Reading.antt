@@ -86,7 +86,7 @@ pub part_apart : (cs : List Lexeme) (h : ℕ) (sa : Scope) (b : Separator) (x : 
 part_apart cs h sa b x at not = record { found = tt; only = λ t y w r s. absurd (not r.0) }
 
 pub part_apart_leaf : (cs : List Lexeme) (h : ℕ) (sa : Scope) (c : Terminal) (a : Act) (at : ℕ) → ((k : Class) → class_at cs sa at ≡ Some k → Has (takes c) k → ⊥) → Part cs h sa None (Token c a) at None
-part_apart_leaf cs h sa c a at not = record { found = tt; only = λ t y w r s. absurd (not r.3.0 r.3.1.0 r.3.1.1) }
+part_apart_leaf cs h sa c a at not = record { found = tt; only = λ t y w r s. absurd (not r.3.0 r.3.1 r.3.2) }
 
 pub part_flat : (cs : List Lexeme) (sa : Scope) (c : Terminal) (a : Act) (at : ℕ) → Part cs 0 sa None (Token c a) at None
 part_flat cs sa c a at = record { found = tt; only = λ t y w r s. (let l : 1 ≤ 0 = r.1 in absurd (omega arith)) }

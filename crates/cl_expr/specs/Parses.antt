@@ -11,7 +11,7 @@ use Rattle.cl_expr.specs.declared.table.Label.{Label}
 use Rattle.cl_tree.specs.declared.tree.Tree.{Tree, Tree-F, out-Tree, roll-Tree}
 use Rattle.cl_expr.specs.declared.reader.Found.{Found}
 use Rattle.std.specs.declared.alloc.Global.{Global}
-use Rattle.std.specs.declared.alloc.AllocError.{AllocError}
+use Rattle.cl_base.specs.declared.memory.Memory.{Memory}
 use Rattle.std.specs.Borrow.{Bor}
 use Rattle.cl_tree.specs.declared.lexeme.Lexeme.{Lexeme}
 use Rattle.cl_tree.specs.declared.scope.Scope.{Scope}
@@ -74,11 +74,11 @@ pub record Parses (cs : List Lexeme) (h : ℕ) (s : Scope) (g : Nonterminal) (at
   pub only : (t : Tree) (z : ℕ) (w : Scope) → At cs h g z s t w → start t ≡ at → Stops cs w g (end t) → Gives r t z w
 
 -- a function value that parses
-pub record Nests (cs : List Lexeme) (h : ℕ) (pre : Global → Bor (List Lexeme) → Scope → Nonterminal → ℕ → ℕ → Type 0)
-    (post : Global → Bor (List Lexeme) → Scope → Nonterminal → ℕ → ℕ → Result (Option Found) AllocError → Type 0) : Type 0 where
-  pub callable : (alloc : Global) (tokens : Bor (List Lexeme)) (s : Scope) (g : Nonterminal) (d at : ℕ) → tokens.now ≡ cs → d ≤ h → pre alloc tokens s g d at
-  pub parses : (alloc : Global) (tokens : Bor (List Lexeme)) (s : Scope) (g : Nonterminal) (d at : ℕ) (r : Result (Option Found) AllocError) → tokens.now ≡ cs
-      → d ≤ h → post alloc tokens s g d at r → IfOk r (Parses cs d s g at)
+pub record Nests (cs : List Lexeme) (h : ℕ) (pre : Global → Bor (List Lexeme) → Bor Scope → Nonterminal → ℕ → ℕ → Type 0)
+    (post : Global → Bor (List Lexeme) → Bor Scope → Nonterminal → ℕ → ℕ → Result (Option Found) Memory → Type 0) : Type 0 where
+  pub callable : (alloc : Global) (tokens : Bor (List Lexeme)) (s : Bor Scope) (g : Nonterminal) (d at : ℕ) → tokens.now ≡ cs → d ≤ h → pre alloc tokens s g d at
+  pub parses : (alloc : Global) (tokens : Bor (List Lexeme)) (s : Bor Scope) (g : Nonterminal) (d at : ℕ) (r : Result (Option Found) Memory) → tokens.now ≡ cs
+      → d ≤ h → post alloc tokens s g d at r → IfOk r (Parses cs d s.now g at)
   pub shallow : h < 512
   pub short : length cs < 2 ^ 32 - 4
 

@@ -49,6 +49,22 @@ impl Scope {
             frames: List::new(alloc),
         }
     }
+
+    /// A copy.
+    pub fn share(&self, alloc: Global) -> Mem<Scope>
+        ensures { IfOk result (λ copy. copy ≡ self.now) }
+    {
+        let mut changes = List::new(alloc);
+        changes.extend(self.changes.as_slice())?;
+        let mut frames = List::new(alloc);
+        frames.extend(self.frames.as_slice())?;
+        Ok(Scope {
+            typing: self.typing,
+            pending: self.pending,
+            changes,
+            frames,
+        })
+    }
 }
 
 /// What the token at a number spells; past the end nothing.
