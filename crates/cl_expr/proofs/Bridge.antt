@@ -17,7 +17,7 @@ use Rattle.cl_tree.specs.declared.scope.Scope.{Scope}
 use Rattle.cl_tree.specs.Scopes.{empty, class_at, pass}
 use Rattle.cl_tree.specs.Grammar.{Production, productions, units, takes}
 use Rattle.cl_tree.specs.Derives as d
-use Rattle.cl_tree.specs.Derives.{Has, start, end, parts, leaf, left_out, Next, nexts, barred, StandsFor, itself, through, Derived, Derives}
+use Rattle.cl_tree.specs.Derives.{Has, start, end, parts, leaf, left_out, Next, nexts, barred, StandsFor, itself, through, Derived, Spans}
 use Rattle.cl_expr.specs.declared.table.Edge.{Edge}
 use Rattle.cl_expr.specs.declared.table.Label.{Label}
 use Rattle.cl_expr.specs.declared.table.Ways.{Ways}
@@ -592,8 +592,8 @@ kind_of_derived cs (suc h) g sa t sw a =
         (subst (λ (v : ℕ). Path (At cs h) h cs v sa (start t) (end t) (parts t) z sw) home_is w.path)))
 
 -- the two views of a whole tree
-pub to_derives : (g : Nonterminal) (cs : List Lexeme) (t : Tree) → Whole g cs t → Derives g cs t
+pub to_derives : (g : Nonterminal) (cs : List Lexeme) (t : Tree) → Whole g cs t → Spans g cs t
 to_derives g cs t w = record { after = w.after; derived = derived_of cs 512 g w.kind empty t w.after w.at; from = w.from; to = w.to }
 
-pub of_derives : (g : Nonterminal) (cs : List Lexeme) (t : Tree) → Derives g cs t → Whole g cs t
+pub of_derives : (g : Nonterminal) (cs : List Lexeme) (t : Tree) → Spans g cs t → Whole g cs t
 of_derives g cs t w = let o = kind_of_derived cs 512 g empty t w.after w.derived in record { kind = o.0; after = w.after; at = o.1; from = w.from; to = w.to }

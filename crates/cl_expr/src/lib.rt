@@ -7,4 +7,4 @@ mod reader;
 mod scan;
 mod table;
 
-pub use expression::{one_tree, parse};
+pub use expression::{ExprTree, one_tree, parse, parse_expr};

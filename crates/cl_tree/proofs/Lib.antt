@@ -1,1 +1,2 @@
+mod BadItems
 mod Frames

@@ -16,6 +16,10 @@ use Rattle.cl_tree.specs.declared.tree.Tree.{Tree, Tree-F, out-Tree, roll-Tree}
 use Rattle.cl_tree.specs.declared.lexeme.Lexeme.{Lexeme}
 use Rattle.cl_tree.specs.declared.scope.Scope.{Scope}
 use Rattle.cl_tree.specs.Scopes.{empty, class_at, pass}
+use Rattle.cl_tree.specs.declared.set.NameSet.{NameSet}
+use Rattle.cl_base.specs.declared.token.PpToken.{PpToken}
+use Rattle.cl_tree.specs.Brackets.{brackets}
+use Rattle.cl_tree.specs.Lexemes.{lexemes}
 use Rattle.cl_tree.specs.Grammar.{Production, productions, units, takes}
 
 -- x stands somewhere in the list
@@ -114,8 +118,12 @@ Derived ts zero g s t w = ⊥
 Derived ts (suc h) g s t w = (r : Production) × Has productions r × StandsFor g r.of × IsNode (Derived ts h) h ts r s t w
 
 -- the tree is one of the nonterminal on all of the tokens, of a height of at most 512
-pub record Derives (g : Nonterminal) (ts : List Lexeme) (t : Tree) : Type 0 where
+pub record Spans (g : Nonterminal) (ts : List Lexeme) (t : Tree) : Type 0 where
   pub after : Scope
   pub derived : Derived ts 512 g empty t after
   pub from : start t ≡ 0
   pub to : end t ≡ length ts
+
+-- the tree is one of the nonterminal on all of these tokens, where these names are typedef names before the first
+abbrev pub Derives : Nonterminal → NameSet → List PpToken → Tree → Type 0
+Derives g typedefs tokens t = Spans g (lexemes typedefs (brackets tokens) tokens) t

@@ -1,5 +1,6 @@
 pub mod Brackets
 pub mod Derives
+pub mod Ends
 pub mod Grammar
 pub mod Lexemes
 pub mod Scopes

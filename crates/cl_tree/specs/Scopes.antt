@@ -11,6 +11,7 @@ use Rattle.cl_tree.specs.declared.lexeme.Lexeme.{Lexeme}
 use Rattle.cl_tree.specs.declared.scope.Change.{Change}
 use Rattle.cl_tree.specs.declared.scope.Frame.{Frame}
 use Rattle.cl_tree.specs.declared.scope.Scope.{Scope}
+use Rattle.cl_tree.specs.Ends.{last, front}
 
 -- nothing is declared yet
 abbrev pub empty : Scope
@@ -71,16 +72,6 @@ same a b = cond a b (not b)
 abbrev pub declared : List Lexeme → List Change → Option ℕ → Bool → List Change
 declared ts cs None typed = cs
 declared ts cs (Some i) typed = cond (same (typed_at ts cs i) typed) cs (cs ++ record { at = i; typed = typed } ∷ [])
-
-abbrev pub last : List Frame → Option Frame
-last [] = None
-last (f ∷ []) = Some f
-last (f ∷ g ∷ fs) = last (g ∷ fs)
-
-abbrev pub front : List Frame → List Frame
-front [] = []
-front (f ∷ []) = []
-front (f ∷ g ∷ fs) = f ∷ front (g ∷ fs)
 
 abbrev pub opened : Scope → Scope
 opened s = record { typing = false; pending = None; changes = s.changes; frames = s.frames ++ record { typing = s.typing; pending = s.pending; kept = length s.changes } ∷ [] }

@@ -1,7 +1,7 @@
 //! Trees of C, the grammar of expressions and declarations as one table, and what it is for a tree to derive.
 #![tactic(auto)]
 
-mod brackets;
+mod bracket;
 mod class;
 mod grammar;
 mod lexeme;
@@ -14,6 +14,7 @@ mod spelling;
 mod tree;
 
 
+pub use bracket::{bad_extent, brackets};
 pub use class::Class;
 pub use grammar::{Act, Again, Part, Production, Separator, Symbol, Terminal, Unit, agains, parts, productions, units};
 pub use lexeme::{Lexeme, lexemes};

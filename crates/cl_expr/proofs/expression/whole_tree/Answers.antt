@@ -2,10 +2,10 @@ use Rattle.std.proofs.Common.{◌≡◌, arith, refl, sym, ◌∙◌, ap, subst}
 use Rattle.std.specs.Prelude.{None, Some, Option, length}
 use Rattle.cl_tree.specs.declared.scope.Scope.{Scope}
 use Rattle.cl_tree.specs.declared.tree.Tree.{Tree, out-Tree}
-use Rattle.cl_tree.specs.Derives.{Derives, end}
+use Rattle.cl_tree.specs.Derives.{Spans, end}
 use Rattle.cl_expr.proofs.Bridge.{to_derives, of_derives}
 use Rattle.cl_expr.proofs.Climb.{whole_found, whole_only}
-use Rattle.cl_expr.proofs.expression.parse.Goals as goal
+use Rattle.cl_expr.proofs.expression.whole_tree.Goals as goal
 
 pub returns-then-found-tokens-clause-found : goal.returns-then-found-tokens-clause-found
 returns-then-found-tokens-clause-found c =
