@@ -1,0 +1,12 @@
+mod All
+mod Bars
+mod Bridge
+mod Checks
+mod Climb
+mod Conditions
+mod Heights
+mod Law
+mod Reading
+mod Rows
+mod Scans
+mod Within

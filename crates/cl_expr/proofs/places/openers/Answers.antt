@@ -1,0 +1,22 @@
+use Rattle.std.proofs.Common.{◌≡◌, ◌≤◌, ℕ, List, sym, ◌∙◌, ap, subst, length, arith}
+use Rattle.std.specs.Prelude.{slice_range}
+use Rattle.cl_expr.specs.Table.{all_openers}
+use Rattle.cl_expr.proofs.Rows.{openers_are, openers_lie, none_openers}
+use Rattle.cl_expr.proofs.places.openers.Goals as goal
+
+pub slice_bounds-result-count : goal.slice_bounds-result-count
+slice_bounds-result-count c = (openers_lie c.args.goal c.in-Some.row (sym c.goal_at.ensures ∙ c.in-Some.is)).0
+
+pub slice_bounds-result-start : goal.slice_bounds-result-start
+slice_bounds-result-start c = (openers_lie c.args.goal c.in-Some.row (sym c.goal_at.ensures ∙ c.in-Some.is)).0
+
+pub slice_bounds-result-end : goal.slice_bounds-result-end
+slice_bounds-result-end c =
+    rw c.all_openers.ensures ((openers_lie c.args.goal c.in-Some.row (sym c.goal_at.ensures ∙ c.in-Some.is)).1)
+
+pub returns-in-Some : goal.returns-in-Some
+returns-in-Some c =
+    rw c.all_openers.ensures (openers_are c.args.goal c.in-Some.row (sym c.goal_at.ensures ∙ c.in-Some.is))
+
+pub returns-in-None : goal.returns-in-None
+returns-in-None c = sym (none_openers c.args.goal (sym c.goal_at.ensures ∙ c.in-None.is))

@@ -1,0 +1,7 @@
+use Rattle.std.proofs.Common.{◌≡◌}
+use Rattle.cl_expr.specs.Parses.{Begins, Enters, GoesOn}
+use Rattle.cl_expr.proofs.Scans.{Before}
+use Rattle.cl_expr.proofs.scan.look.Given as goal
+
+abbrev pub invariant-loop-edge : goal.invariant-loop-edge
+invariant-loop-edge l = Before (λ x. Begins x.before x.symbol l.class) l.all l.edge-index

@@ -1,0 +1,294 @@
+//! Reads the tree of any nonterminal of the table.
+
+ghost use Rattle.std.specs.Prelude.{◌≡◌, ◌<◌, ◌≤◌, ◌+◌, ◌-◌, ◌^◌, Some, None, true, false, IfOk, IfSome, length, slice_get, max, suc, [], ◌∷◌};
+ghost use Rattle.cl_tree.specs.Scopes as n;
+ghost use Rattle.cl_tree.specs.Derives.{Has, start, end, leaf};
+ghost use Rattle.cl_tree.specs.declared.class.Class.{Class};
+ghost use Rattle.cl_tree.specs.declared.grammar.Symbol.TheVariants.{Token};
+ghost use Rattle.cl_expr.specs.Table as t;
+ghost use Rattle.cl_expr.specs.Parses.{Parses, Nests, Part, Half, Builds, Opens, Steps, Climbs, GoesOn, Sound, Begins, Enters};
+
+use crate::places::{bar, corner, kinds, name_of, turn};
+use crate::scan::{going, has_place, look, opening, same_class, taken};
+use crate::table::Edge;
+use cl_base::{List, Mem};
+use cl_tree::{Act, Class, Lexeme, Nonterminal, Rule, Scope, Separator, Symbol, Terminal, Tree, class_at, pass};
+use std::alloc::Global;
+
+/// A tree, the place where its production ended, what is declared after it, and its height.
+#[derive(Drop)]
+pub struct Found {
+    pub tree: Tree,
+    pub place: u16,
+    pub scope: Scope,
+    pub height: u32,
+}
+
+fn larger(a: u32, b: u32) -> u32
+    ensures { result ≡ max a b }
+{
+    if a < b { b } else { a }
+}
+
+fn token_leaf(alloc: Global, at: u32) -> Tree
+    requires { at < 2 ^ 32 - 1 }
+    ensures { result ≡ leaf at }
+{
+    Tree {
+        rule: Rule::Token,
+        choice: 0,
+        from: at,
+        to: at + 1,
+        parts: List::new(alloc),
+    }
+}
+
+fn one(alloc: Global, a: Tree) -> Mem<List<Tree>>
+    ensures { IfOk result (λ parts. parts ≡ a ∷ []) }
+{
+    let mut parts = List::new(alloc);
+    parts.push(a)?;
+    Ok(parts)
+}
+
+/// The productions, over a parser of nonterminals.
+#[derive(Clone, Copy)]
+pub struct Grammar<'a, F> {
+    pub alloc: Global,
+    pub tokens: &'a [Lexeme],
+    pub depth: u32,
+    pub parse: F,
+}
+
+impl<F: Fn(Global, &[Lexeme], &Scope, Nonterminal, u32, u32) -> Mem<Option<Found>>> Grammar<'_, F> {
+    fn nonterminal(&self, scope: Scope, goal: Nonterminal, at: u32) -> Mem<Option<Found>>
+        requires nests { Nests self.now.tokens.now self.now.depth (F.pre self.now.parse) (F.post self.now.parse) }
+        ensures { IfOk result (Parses self.now.tokens.now self.now.depth scope goal at) }
+    {
+        (self.parse)(self.alloc, self.tokens, &scope, goal, self.depth, at)
+    }
+
+    /// The token that a terminal takes.
+    fn token(&self, scope: Scope, terminal: Terminal, act: Act, at: u32) -> Mem<Option<Found>>
+        requires nests { Nests self.now.tokens.now self.now.depth (F.pre self.now.parse) (F.post self.now.parse) }
+        ensures { IfOk result (Part self.now.tokens.now self.now.depth scope None (Token terminal act) at) }
+    {
+        if self.depth == 0 {
+            return Ok(None);
+        }
+        let Some(class) = class_at(self.tokens, &scope, at) else {
+            return Ok(None);
+        };
+        let there = taken(terminal, class);
+        if !there {
+            return Ok(None);
+        }
+        let after = pass(self.tokens, scope, act, at)?;
+        Ok(Some(Found {
+            tree: token_leaf(self.alloc, at),
+            place: 0,
+            scope: after,
+            height: 1,
+        }))
+    }
+
+    /// What a symbol stands for.
+    fn symbol(&self, scope: Scope, symbol: Symbol, at: u32) -> Mem<Option<Found>>
+        requires nests { Nests self.now.tokens.now self.now.depth (F.pre self.now.parse) (F.post self.now.parse) }
+        ensures { IfOk result (Part self.now.tokens.now self.now.depth scope None symbol at) }
+    {
+        match symbol {
+            Symbol::Token(terminal, act) => self.token(scope, terminal, act, at),
+            Symbol::Node(goal) => self.nonterminal(scope, goal, at),
+        }
+    }
+
+    /// What a symbol stands for, after a separator.
+    fn separated(&self, scope: Scope, separator: Separator, symbol: Symbol, at: u32) -> Mem<Option<Found>>
+        requires nests { Nests self.now.tokens.now self.now.depth (F.pre self.now.parse) (F.post self.now.parse) }
+        ensures { IfOk result (Part self.now.tokens.now self.now.depth scope (Some separator) symbol at) }
+    {
+        let Some(class) = class_at(self.tokens, &scope, at) else {
+            return Ok(None);
+        };
+        let there = same_class(class, separator.class);
+        if !there {
+            return Ok(None);
+        }
+        let after = pass(self.tokens, scope, separator.act, at)?;
+        self.symbol(after, symbol, at + 1)
+    }
+
+    /// What stands at an edge.
+    fn part(&self, scope: Scope, edge: Edge, at: u32) -> Mem<Option<Found>>
+        requires nests { Nests self.now.tokens.now self.now.depth (F.pre self.now.parse) (F.post self.now.parse) }
+        ensures { IfOk result (Part self.now.tokens.now self.now.depth scope edge.before edge.symbol at) }
+    {
+        match edge.before {
+            Some(separator) => self.separated(scope, separator, edge.symbol, at),
+            None => self.symbol(scope, edge.symbol, at),
+        }
+    }
+
+    /// What begins at a place of a production.
+    fn edge(&self, scope: &Scope, place: u16, at: u32) -> Option<Edge>
+        ensures some { IfSome result (λ e. Has (t.edges place) e × ((k : Class) × (n.class_at self.now.tokens.now scope.now at ≡ Some k) × Begins e.before e.symbol k)) }
+        ensures none { result ≡ None → (k : Class) → n.class_at self.now.tokens.now scope.now at ≡ Some k → Enters place k → ⊥ }
+    {
+        match class_at(self.tokens, scope, at) {
+            Some(class) => look(place, class),
+            None => None,
+        }
+    }
+
+    /// Whether the token there may not follow a production that ends at a place.
+    fn barred(&self, scope: &Scope, place: u16, at: u32) -> bool
+        ensures yes { result ≡ true → (k : Class) × (n.class_at self.now.tokens.now scope.now at ≡ Some k) × Has (t.bars place) k }
+        ensures no { result ≡ false → (k : Class) → n.class_at self.now.tokens.now scope.now at ≡ Some k → Has (t.bars place) k → ⊥ }
+    {
+        let Some(terminal) = bar(place) else {
+            return false;
+        };
+        match class_at(self.tokens, scope, at) {
+            Some(class) => taken(terminal, class),
+            None => false,
+        }
+    }
+
+    /// The node that has these parts, and goes on from a place of its production.
+    fn read(
+        &self,
+        before: &Scope,
+        inner: Scope,
+        start: u16,
+        first: List<Tree>,
+        from: u32,
+        mid: u32,
+        least: u32,
+    ) -> Mem<Option<Found>>
+        requires nests { Nests self.now.tokens.now self.now.depth (F.pre self.now.parse) (F.post self.now.parse) }
+        requires half { Half self.now.tokens.now self.now.depth before.now inner start first from mid least }
+        requires unnamed { t.name_of start ≡ None }
+        ensures { IfOk result (Builds self.now.tokens.now self.now.depth before.now inner start first from mid) }
+    {
+        let mut scope = inner;
+        let mut place = start;
+        let mut parts = first;
+        let mut to = mid;
+        let mut height = least;
+        while let Some(edge) = self.edge(&scope, place, to) {
+            let Some(part) = self.part(scope, edge, to)? else {
+                return Ok(None);
+            };
+            place = turn(edge.next, part.place);
+            to = part.tree.to;
+            scope = part.scope;
+            height = larger(height, part.height);
+            parts.push(part.tree)?;
+        }
+        let Some(label) = name_of(place) else {
+            return Ok(None);
+        };
+        let barred = self.barred(&scope, place, to);
+        if barred {
+            return Ok(None);
+        }
+        Ok(Some(Found {
+            tree: Tree {
+                rule: label.rule,
+                choice: label.choice,
+                from,
+                to,
+                parts,
+            },
+            place,
+            scope,
+            height: height + 1,
+        }))
+    }
+
+    /// The node that begins a tree of a nonterminal.
+    fn opener(&self, scope: &Scope, goal: Nonterminal, at: u32) -> Mem<Option<Found>>
+        requires nests { Nests self.now.tokens.now self.now.depth (F.pre self.now.parse) (F.post self.now.parse) }
+        ensures { IfOk result (Opens self.now.tokens.now self.now.depth scope.now goal at) }
+    {
+        let Some(class) = class_at(self.tokens, scope, at) else {
+            return Ok(None);
+        };
+        let Some(start) = opening(goal, class) else {
+            return Ok(None);
+        };
+        let inner = scope.share(self.alloc)?;
+        self.read(scope, inner, start, List::new(self.alloc), at, at, 0)
+    }
+
+    /// The node of a production that begins with a part.
+    fn step(&self, before: &Scope, start: u16, left: Found) -> Mem<Option<Found>>
+        requires nests { Nests self.now.tokens.now self.now.depth (F.pre self.now.parse) (F.post self.now.parse) }
+        requires left { Sound self.now.tokens.now (suc self.now.depth) before.now left }
+        requires goes_on { GoesOn self.now.tokens.now left.scope start left.place (end left.tree) }
+        requires start { t.home start ≡ start }
+        ensures { IfOk result (Steps self.now.tokens.now self.now.depth before.now start left) }
+    {
+        let Some(head) = corner(start) else {
+            return Ok(None);
+        };
+        if left.height > self.depth {
+            return Ok(None);
+        }
+        let from = left.tree.from;
+        let mid = left.tree.to;
+        let height = left.height;
+        let inner = left.scope;
+        let parts = one(self.alloc, left.tree)?;
+        self.read(before, inner, head.next, parts, from, mid, height)
+    }
+
+    /// The tree of a nonterminal that goes on from its first node.
+    fn climb(&self, before: &Scope, goal: Nonterminal, first: Found) -> Mem<Option<Found>>
+        requires nests { Nests self.now.tokens.now self.now.depth (F.pre self.now.parse) (F.post self.now.parse) }
+        requires first { Sound self.now.tokens.now (suc self.now.depth) before.now first }
+        ensures { IfOk result (Climbs self.now.tokens.now self.now.depth before.now goal first) }
+    {
+        let mut left = first;
+        while let Some(start) = going(self.tokens, &left.scope, goal, left.place, left.tree.to) {
+            let Some(next) = self.step(before, start, left)? else {
+                return Ok(None);
+            };
+            left = next;
+        }
+        Ok(Some(left))
+    }
+}
+
+/// A tree of a nonterminal from a token on, of at most a height, where this is declared.
+pub fn tree_at(
+    alloc: Global,
+    tokens: &[Lexeme],
+    scope: &Scope,
+    goal: Nonterminal,
+    depth: u32,
+    at: u32,
+) -> Mem<Option<Found>>
+    requires depth { depth ≤ 512 }
+    requires short { length tokens.now < 2 ^ 32 - 4 }
+    ensures { IfOk result (Parses tokens.now depth scope.now goal at) }
+{
+    if depth == 0 {
+        return Ok(None);
+    }
+    let grammar = Grammar {
+        alloc,
+        tokens,
+        depth: depth - 1,
+        parse: tree_at,
+    };
+    let Some(first) = grammar.opener(scope, goal, at)? else {
+        return Ok(None);
+    };
+    let Some(last) = grammar.climb(scope, goal, first)? else {
+        return Ok(None);
+    };
+    let fits = has_place(kinds(goal), last.place);
+    if fits { Ok(Some(last)) } else { Ok(None) }
+}

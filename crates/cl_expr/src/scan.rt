@@ -1,0 +1,158 @@
+//! Looking into the tables.
+
+ghost use Rattle.std.specs.Prelude.{◌≡◌, ◌<◌, Some, None, true, false, IfSome, length, slice_get, ℕ};
+ghost use Rattle.cl_tree.specs.Scopes as n;
+ghost use Rattle.cl_tree.specs.Grammar.{takes};
+ghost use Rattle.cl_tree.specs.Derives.{Has};
+ghost use Rattle.cl_tree.specs.declared.class.Class.{Class};
+ghost use Rattle.cl_expr.specs.Table as t;
+ghost use Rattle.cl_expr.specs.Parses.{Begins, BeginsSymbol, Enters, GoesOn};
+
+use crate::places::{corner, edges, firsts, kinds, openers, suffixes};
+use crate::table::Edge;
+use cl_tree::{Class, Lexeme, Nonterminal, Scope, Symbol, Terminal, class_at};
+
+/// Whether two classes are one.
+pub fn same_class(a: Class, b: Class) -> bool
+    ensures yes { result ≡ true → a ≡ b }
+    ensures no { result ≡ false → a ≡ b → ⊥ }
+{
+    a == b
+}
+
+/// Whether a class is among these.
+pub fn has_class(list: &[Class], class: Class) -> bool
+    ensures yes { result ≡ true → Has list.now class }
+    ensures no { result ≡ false → Has list.now class → ⊥ }
+{
+    for one in list {
+        let same = same_class(*one, class);
+        if same {
+            return true;
+        }
+    }
+    false
+}
+
+/// Whether a place is among these.
+pub fn has_place(list: &[u16], place: u16) -> bool
+    ensures yes { result ≡ true → Has list.now place }
+    ensures no { result ≡ false → Has list.now place → ⊥ }
+{
+    for one in list {
+        if *one == place {
+            return true;
+        }
+    }
+    false
+}
+
+/// Whether a terminal takes tokens of a class.
+pub fn taken(terminal: Terminal, class: Class) -> bool
+    ensures yes { result ≡ true → Has (takes terminal) class }
+    ensures no { result ≡ false → Has (takes terminal) class → ⊥ }
+{
+    match terminal {
+        Terminal::Is(own) => has_class(&[own], class),
+        Terminal::Name => has_class(
+            &[Class::Ident, Class::IdentColon, Class::TypedefName, Class::TypedefColon],
+            class,
+        ),
+        Terminal::Open => has_class(&[Class::LeftParen, Class::TypeParen, Class::LiteralParen], class),
+        Terminal::TypeOpen => has_class(&[Class::TypeParen, Class::LiteralParen], class),
+        Terminal::Typed => has_class(&[Class::TypedefName, Class::TypedefColon], class),
+    }
+}
+
+/// Whether tokens of a class begin what a symbol stands for.
+fn begins_symbol(symbol: Symbol, class: Class) -> bool
+    ensures yes { result ≡ true → BeginsSymbol symbol class }
+    ensures no { result ≡ false → BeginsSymbol symbol class → ⊥ }
+{
+    match symbol {
+        Symbol::Token(terminal, _) => taken(terminal, class),
+        Symbol::Node(goal) => has_class(firsts(goal), class),
+    }
+}
+
+/// Whether tokens of a class begin what stands at an edge.
+pub fn begins(edge: Edge, class: Class) -> bool
+    ensures yes { result ≡ true → Begins edge.before edge.symbol class }
+    ensures no { result ≡ false → Begins edge.before edge.symbol class → ⊥ }
+{
+    match edge.before {
+        Some(separator) => same_class(separator.class, class),
+        None => begins_symbol(edge.symbol, class),
+    }
+}
+
+/// What a token begins at a place.
+pub fn look(place: u16, class: Class) -> Option<Edge>
+    ensures some { IfSome result (λ e. Has (t.edges place) e × Begins e.before e.symbol class) }
+    ensures none { result ≡ None → Enters place class → ⊥ }
+{
+    let all = edges(place);
+    for edge in all {
+        let fits = begins(*edge, class);
+        if fits {
+            return Some(*edge);
+        }
+    }
+    None
+}
+
+/// Whether a token begins something at a place.
+pub fn enters(place: u16, class: Class) -> bool
+    ensures yes { result ≡ true → Enters place class }
+    ensures no { result ≡ false → Enters place class → ⊥ }
+{
+    look(place, class).is_some()
+}
+
+/// The place at the left end of a nonterminal where a token begins something.
+pub fn opening(goal: Nonterminal, class: Class) -> Option<u16>
+    ensures some { IfSome result (λ s. Has (t.openers goal) s × Enters s class) }
+    ensures none { result ≡ None → (s : ℕ) → Has (t.openers goal) s → Enters s class → ⊥ }
+{
+    let all = openers(goal);
+    for start in all {
+        let fits = enters(*start, class);
+        if fits {
+            return Some(*start);
+        }
+    }
+    None
+}
+
+/// Whether a production whose first part is of a kind goes on.
+pub fn goes_on(tokens: &[Lexeme], scope: &Scope, start: u16, kind: u16, at: u32) -> bool
+    ensures yes { result ≡ true → GoesOn tokens.now scope.now start kind at }
+    ensures no { result ≡ false → GoesOn tokens.now scope.now start kind at → ⊥ }
+{
+    let Some(cornered) = corner(start) else {
+        return false;
+    };
+    let takes = has_place(kinds(cornered.goal), kind);
+    if !takes {
+        return false;
+    }
+    match class_at(tokens, scope, at) {
+        Some(class) => enters(cornered.next, class),
+        None => false,
+    }
+}
+
+/// The production that goes on from a part.
+pub fn going(tokens: &[Lexeme], scope: &Scope, goal: Nonterminal, kind: u16, at: u32) -> Option<u16>
+    ensures some { IfSome result (λ s. Has (t.suffixes goal) s × GoesOn tokens.now scope.now s kind at) }
+    ensures none { result ≡ None → (s : ℕ) → Has (t.suffixes goal) s → GoesOn tokens.now scope.now s kind at → ⊥ }
+{
+    let all = suffixes(goal);
+    for start in all {
+        let fits = goes_on(tokens, scope, *start, kind, at);
+        if fits {
+            return Some(*start);
+        }
+    }
+    None
+}

@@ -1,0 +1,2 @@
+mod BadItems
+mod Frames

@@ -1,0 +1,50 @@
+-- Tokens as the grammar reads them.
+use Rattle.std.specs.Prelude.{◌≡◌, ℕ, ◌+◌, List, [], ◌∷◌, Option, Some, None, slice_get, Bool, false, ◌||◌, nat_eq, codes}
+use Rattle.std.specs.Cmp.Lexicographic.{pointwise}
+use Rattle.cl_base.specs.declared.token.PpToken.{PpToken}
+use Rattle.cl_tree.specs.declared.shape.Ahead.{Ahead}
+use Rattle.cl_tree.specs.declared.shape.Ahead.TheVariants as ahead
+use Rattle.cl_tree.specs.declared.lexeme.Lexeme.{Lexeme}
+use Rattle.cl_tree.specs.declared.set.NameSet.{NameSet}
+use Rattle.cl_tree.specs.Shapes.{shape_of}
+use Rattle.cl_tree.specs.Spellings.{sort_of}
+use Rattle.cl_tree.specs.Sets.{has}
+
+abbrev pub ahead_of : Option PpToken → Ahead
+ahead_of None = ahead.Other
+ahead_of (Some token) = (sort_of token).ahead
+
+-- what the token at a number is to the one before it
+abbrev pub ahead_at : List PpToken → ℕ → Ahead
+ahead_at tokens i = ahead_of (slice_get tokens i)
+
+abbrev pub is_brace_of : Option PpToken → Bool
+is_brace_of None = false
+is_brace_of (Some token) = pointwise nat_eq token.text (codes "{") || pointwise nat_eq token.text (codes "<%")
+
+abbrev pub is_brace : List PpToken → ℕ → Bool
+is_brace tokens i = is_brace_of (slice_get tokens i)
+
+abbrev pub literal_by : List PpToken → Option ℕ → Bool
+literal_by tokens None = false
+literal_by tokens (Some partner) = is_brace tokens (partner + 1)
+
+-- the partner of the token at a number stands directly before `{`
+abbrev pub is_literal : List PpToken → List ℕ → ℕ → Bool
+is_literal tokens pairs i = literal_by tokens (slice_get pairs i)
+
+-- a token, where these names are typedef names before the first one and these are the partners of the brackets
+abbrev pub lexeme_of : NameSet → List ℕ → List PpToken → ℕ → PpToken → Lexeme
+lexeme_of typedefs pairs tokens i token = record {
+  shape = shape_of (sort_of token).raw (ahead_at tokens (i + 1)) (is_literal tokens pairs i);
+  typed = has typedefs token.text;
+  text = token.text;
+}
+
+abbrev pub lexemes_from : NameSet → List ℕ → List PpToken → ℕ → List PpToken → List Lexeme
+lexemes_from typedefs pairs tokens i [] = []
+lexemes_from typedefs pairs tokens i (token ∷ rest) = lexeme_of typedefs pairs tokens i token ∷ lexemes_from typedefs pairs tokens (i + 1) rest
+
+-- all of the tokens
+unfoldable pub lexemes : NameSet → List ℕ → List PpToken → List Lexeme
+lexemes typedefs pairs tokens = lexemes_from typedefs pairs tokens 0 tokens

@@ -1,0 +1,9 @@
+pub mod Brackets
+pub mod Derives
+pub mod Ends
+pub mod Grammar
+pub mod Lexemes
+pub mod Scopes
+pub mod Sets
+pub mod Shapes
+pub mod Spellings

@@ -1,0 +1,26 @@
+//! Trees of C, the grammar of expressions and declarations as one table, and what it is for a tree to derive.
+#![tactic(auto)]
+
+mod bracket;
+mod class;
+mod grammar;
+mod lexeme;
+mod nonterminal;
+mod rule;
+mod scope;
+mod set;
+mod shape;
+mod spelling;
+mod tree;
+
+
+pub use bracket::{bad_extent, brackets};
+pub use class::Class;
+pub use grammar::{Act, Again, Part, Production, Separator, Symbol, Terminal, Unit, agains, parts, productions, units};
+pub use lexeme::{Lexeme, lexemes};
+pub use nonterminal::Nonterminal;
+pub use rule::Rule;
+pub use scope::{Change, Frame, Scope, class_at, pass};
+pub use set::NameSet;
+pub use shape::Shape;
+pub use tree::Tree;

@@ -1,0 +1,69 @@
+use crate::reading::{tokens_of, two_names};
+use cl_base::Mem;
+use cl_expr::parse_expr;
+use std::alloc::Global;
+use std::test::Fail;
+
+/// A large text: so many times the first, the second, so many times the third; and whether it has a tree.
+struct Case {
+    before: &'static [u8],
+    count: u32,
+    middle: &'static [u8],
+    after: &'static [u8],
+    has_tree: bool,
+}
+
+/// The height of `(` around one name is 3 and two for each more; at 254 it is 511, at 255 it is 513.
+static CASES: [Case; 9] = [
+    Case { before: b"(", count: 100_000, middle: b"a", after: b"", has_tree: false },
+    Case { before: b"+", count: 1_000_000, middle: b"", after: b"", has_tree: false },
+    Case { before: b"- ", count: 1_000_000, middle: b"a", after: b"", has_tree: false },
+    Case { before: b"a[", count: 100_000, middle: b"a", after: b"", has_tree: false },
+    Case { before: b"a + ", count: 500_000, middle: b"a", after: b"", has_tree: false },
+    Case { before: b"a, ", count: 1_000_000, middle: b"a", after: b"", has_tree: false },
+    Case { before: b"a, ", count: 100, middle: b"a", after: b"", has_tree: true },
+    Case { before: b"(", count: 510, middle: b"a", after: b")", has_tree: true },
+    Case { before: b"(", count: 511, middle: b"a", after: b")", has_tree: false },
+];
+
+#[test]
+fn sizes(rt: HostRuntime) -> Result<(), Fail> {
+    let alloc = rt.alloc();
+    for case in CASES.as_slice() {
+        assert!(rt; has_tree(alloc, case)? == case.has_tree, "{}", case.count);
+    }
+    assert!(rt; call(alloc)?, "a call with a million arguments");
+    Ok(())
+}
+
+fn has_tree(alloc: Global, case: &Case) -> Mem<bool> {
+    let mut text = Vec::new(alloc);
+    for _ in 0..case.count {
+        text.extend_from_slice(case.before)?;
+    }
+    text.extend_from_slice(case.middle)?;
+    for _ in 0..case.count {
+        text.extend_from_slice(case.after)?;
+    }
+    let tokens = tokens_of(alloc, text.as_slice())?;
+    let tree = parse_expr(alloc, tokens.as_slice(), &two_names(alloc)?)?;
+    Ok(tree.is_some())
+}
+
+/// Whether a call with a million arguments has its tree: its second part's third part has a million parts.
+fn call(alloc: Global) -> Mem<bool> {
+    let mut text = Vec::new(alloc);
+    text.extend_from_slice(b"f(a")?;
+    for _ in 0..999_999 {
+        text.extend_from_slice(b",a")?;
+    }
+    text.extend_from_slice(b")")?;
+    let tokens = tokens_of(alloc, text.as_slice())?;
+    let Some(tree) = parse_expr(alloc, tokens.as_slice(), &two_names(alloc)?)? else {
+        return Ok(false);
+    };
+    let Some(list) = tree.parts.get(2) else {
+        return Ok(false);
+    };
+    Ok(tree.to as usize == tokens.len() && list.parts.len() == 1_000_000)
+}

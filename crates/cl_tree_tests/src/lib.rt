@@ -1,0 +1,14 @@
+//! Tests of the grammar: expressions and their trees, names that are declared within them, large inputs, and the table of
+//! productions as it is written out. They stand in a crate of their own, since a crate with tests is proved twice.
+#![tactic(auto)]
+
+#[cfg(test)]
+mod cases;
+#[cfg(test)]
+mod expressions;
+#[cfg(test)]
+mod large;
+#[cfg(test)]
+mod reading;
+#[cfg(test)]
+mod scopes;

@@ -1,0 +1,346 @@
+"""Writes crates/cl_expr/src/table.rt, specs/Table.antt and proofs/All.antt from the places of the productions."""
+import os
+from emit_tree import *
+from places import *
+ROOT = os.path.join(os.path.dirname(os.path.abspath(__file__)), '..', '..', 'crates', 'cl_expr')
+def w(f, s):
+    f = os.path.join(ROOT, f); os.makedirs(os.path.dirname(f), exist_ok=True); open(f, 'w').write(s)
+order = lambda S: [c for c in CLASSES if c in S]
+def sep_rs(s): return 'None' if s is None else f'Some(Separator {{ class: Class::{s[0]}, act: Act::{s[1]} }})'
+def sep_a(s): return 'None' if s is None else f'(Some (record {{ class = cl.{s[0]}; act = ac.{s[1]} }}))'
+def wrap(items, width=130):
+    out = ''; line = '   '
+    for x in items:
+        if len(line) + len(x) + 2 > width: out += line + '\n'; line = '   '
+        line += ' ' + x + ','
+    return out + line + '\n'
+flat_edges = [e for q in P for e in q['edges']]
+def ranges(lists):
+    at = 0; out = []
+    for l in lists: out.append((at, at + len(l))); at += len(l)
+    return out
+er = ranges([q['edges'] for q in P])
+kr = ranges([K[g] for g in GOALS]); orr = ranges([openers[g] for g in GOALS]); sr = ranges([suffixes[g] for g in GOALS]); fr = ranges([order(F[g]) for g in GOALS])
+def chunked(name, ty, items, size, one_line=True):
+    return f'static {name}: [{ty}; {len(items)}] = [\n' + (wrap(items) if one_line else ''.join(f'    {x},\n' for x in items)) + '];\n\n'
+o = '''//! Where the parser goes: places in the productions, as numbers of rows. Written by tools/grammar/emit_expr.py.
+
+ghost use Rattle.std.specs.Prelude.{◌≡◌};
+ghost use Rattle.cl_expr.specs.Table as t;
+
+use cl_tree::{Act, Class, Nonterminal, Rule, Separator, Symbol, Terminal};
+
+/// What may stand at a place, and the place after it.
+#[derive(Clone, Copy)]
+pub struct Edge {
+    pub before: Option<Separator>,
+    pub symbol: Symbol,
+    pub next: u16,
+}
+
+/// The rule and alternative of a node.
+#[derive(Clone, Copy)]
+pub struct Label {
+    pub rule: Rule,
+    pub choice: u8,
+}
+
+/// A nonterminal that is read before it is known which production it begins, and the place after it.
+#[derive(Clone, Copy)]
+pub struct Head {
+    pub goal: Nonterminal,
+    pub next: u16,
+}
+
+/// The places after a declarator that names something, and after any other one.
+#[derive(Clone, Copy)]
+pub struct Ways {
+    pub named: u16,
+    pub other: u16,
+}
+
+/// A place: its edges as a range of all of them, the node that may end there, what may not follow it then, and so on.
+#[derive(Clone, Copy)]
+pub struct Row {
+    pub first: u16,
+    pub last: u16,
+    pub label: Option<Label>,
+    pub bar: Option<Terminal>,
+    pub corner: Option<Head>,
+    pub turning: Option<Ways>,
+    pub named: bool,
+}
+
+/// A part of a list.
+#[derive(Clone, Copy)]
+pub struct Span {
+    pub from: u16,
+    pub to: u16,
+}
+
+/// A nonterminal: the places where its trees end, those at its left end and those that go on from there, and the classes
+/// of tokens that begin it, as ranges.
+#[derive(Clone, Copy)]
+pub struct GoalRow {
+    pub kinds: Span,
+    pub openers: Span,
+    pub suffixes: Span,
+    pub firsts: Span,
+}
+
+'''
+o += chunked('EDGES', 'Edge', [f'Edge {{ before: {sep_rs(a)}, symbol: {sym_rs(s)}, next: {n} }}' for a, s, n in flat_edges], 0, False)
+def row_rs(i, q):
+    lab = f'Some(Label {{ rule: Rule::{q["name"][0]}, choice: {q["name"][1]} }})' if q['name'] else 'None'
+    bar = f'Some({term_rs("Typed")})' if q['bars'] else 'None'
+    cor = f'Some(Head {{ goal: Nonterminal::{q["corner"][0]}, next: {q["corner"][1]} }})' if q['corner'] else 'None'
+    tur = f'Some(Ways {{ named: {q["turn"][0]}, other: {q["turn"][1]} }})' if q['turn'] else 'None'
+    return f'Row {{ first: {er[i][0]}, last: {er[i][1]}, label: {lab}, bar: {bar}, corner: {cor}, turning: {tur}, named: {"true" if is_named[i] else "false"} }}'
+o += chunked('ROWS', 'Row', [row_rs(i, q) for i, q in enumerate(P)], 0, False)
+sp = lambda r: f'Span {{ from: {r[0]}, to: {r[1]} }}'
+o += chunked('GOALS', 'GoalRow', [f'GoalRow {{ kinds: {sp(kr[i])}, openers: {sp(orr[i])}, suffixes: {sp(sr[i])}, firsts: {sp(fr[i])} }}' for i in range(len(GOALS))], 0, False)
+o += chunked('KINDS', 'u16', [str(z) for g in GOALS for z in K[g]], 0)
+o += chunked('OPENERS', 'u16', [str(z) for g in GOALS for z in openers[g]], 0)
+o += chunked('SUFFIXES', 'u16', [str(z) for g in GOALS for z in suffixes[g]], 0)
+o += chunked('FIRSTS', 'Class', [f'Class::{c}' for g in GOALS for c in order(F[g])], 0)
+for fn, st, ty, doc in (('all_edges', 'EDGES', 'Edge', 'The edges of all places, one place after the other'), ('rows', 'ROWS', 'Row', 'The places'), ('goal_rows', 'GOALS', 'GoalRow', 'The nonterminals'),
+    ('all_kinds', 'KINDS', 'u16', 'The places where the trees of each nonterminal end'), ('all_openers', 'OPENERS', 'u16', 'The places at the left end of each nonterminal'), ('all_suffixes', 'SUFFIXES', 'u16', 'The places that go on from there'), ('all_firsts', 'FIRSTS', 'Class', 'The classes of tokens that begin each nonterminal')):
+    o += f'/// {doc}.\npub fn {fn}() -> &\'static [{ty}]\n    ensures {{ result.now ≡ t.{fn} }}\n{{\n    &{st}\n}}\n\n'
+w('src/table.rt', o.rstrip() + '\n')
+A = '''-- The places in the productions. Written by tools/grammar/emit_expr.py; proofs/Conditions and proofs/Bridge check it against the productions.
+use Rattle.std.specs.Prelude.{ℕ, List, [], ◌∷◌, ◌++◌, Option, Some, None, Bool, true, false, cond, slice_get, slice_range}
+use Rattle.cl_tree.specs.declared.class.Class.{Class}
+use Rattle.cl_tree.specs.declared.class.Class.TheVariants as cl
+use Rattle.cl_tree.specs.declared.rule.Rule.TheVariants as ru
+use Rattle.cl_tree.specs.declared.nonterminal.Nonterminal.{Nonterminal}
+use Rattle.cl_tree.specs.declared.nonterminal.Nonterminal.TheVariants as nt
+use Rattle.cl_tree.specs.declared.grammar.Terminal.{Terminal}
+use Rattle.cl_tree.specs.declared.grammar.Terminal.TheVariants as te
+use Rattle.cl_tree.specs.declared.grammar.Act.TheVariants as ac
+use Rattle.cl_tree.specs.declared.grammar.Symbol.{Symbol}
+use Rattle.cl_tree.specs.declared.grammar.Symbol.TheVariants.{Token, Node}
+use Rattle.cl_tree.specs.declared.grammar.Separator.{Separator}
+use Rattle.cl_tree.specs.Derives.{barred}
+use Rattle.cl_expr.specs.declared.table.Edge.{Edge}
+use Rattle.cl_expr.specs.declared.table.Label.{Label}
+use Rattle.cl_expr.specs.declared.table.Head.{Head}
+use Rattle.cl_expr.specs.declared.table.Ways.{Ways}
+use Rattle.cl_expr.specs.declared.table.Row.{Row}
+use Rattle.cl_expr.specs.declared.table.GoalRow.{GoalRow}
+use Rattle.cl_expr.specs.declared.table.Span.{Span}
+
+-- a production, by its number, and how many parts of its right side are behind
+pub record Item : Type 0 where
+  pub production : ℕ
+  pub behind : ℕ
+
+-- a place: what may stand there, the node that may end there and what may not follow it, the nonterminal with which its production begins if that
+-- is read before, the places after a part that turns on its kind, whether the node is a declarator that names something, the place where the
+-- production begins, the tokens that go on from where the node may end, and the productions that are there
+pub record Place : Type 0 where
+  pub edges : List Edge
+  pub label : Option Label
+  pub bar : Option Terminal
+  pub corner : Option Head
+  pub turning : Option Ways
+  pub named : Bool
+  pub home : ℕ
+  pub ends : List Class
+  pub items : List Item
+
+-- a nonterminal: the places where its trees end, those at its left end, those that go on from there, the tokens that begin it and that go on from it
+pub record Goal : Type 0 where
+  pub kinds : List ℕ
+  pub openers : List ℕ
+  pub suffixes : List ℕ
+  pub firsts : List Class
+  pub goes : List Class
+
+abbrev e : Symbol → ℕ → Edge
+e s n = record { before = None; symbol = s; next = n }
+
+abbrev after : Separator → Symbol → ℕ → Edge
+after b s n = record { before = Some b; symbol = s; next = n }
+
+abbrev i : ℕ → ℕ → Item
+i n d = record { production = n; behind = d }
+
+abbrev label : _ → ℕ → Option Label
+label r c = Some (record { rule = r; choice = c })
+
+abbrev head : Nonterminal → ℕ → Option Head
+head g n = Some (record { goal = g; next = n })
+
+abbrev ways : ℕ → ℕ → Option Ways
+ways a b = Some (record { named = a; other = b })
+
+abbrev pub nowhere : Place
+nowhere = record { edges = []; label = None; bar = None; corner = None; turning = None; named = false; home = 0; ends = []; items = [] }
+
+abbrev pub nothing : Goal
+nothing = record { kinds = []; openers = []; suffixes = []; firsts = []; goes = [] }
+
+abbrev row : List Edge → Option Label → Option Terminal → Option Head → Option Ways → Bool → ℕ → List Class → List Item → Place
+row es l b c t n h ends is = record { edges = es; label = l; bar = b; corner = c; turning = t; named = n; home = h; ends = ends; items = is }
+
+unfoldable pub places : List Place
+places =
+'''.replace('abbrev label : _ → ℕ', 'abbrev label : Rule → ℕ').replace('use Rattle.cl_tree.specs.declared.rule.Rule.TheVariants as ru', 'use Rattle.cl_tree.specs.declared.rule.Rule.{Rule}\nuse Rattle.cl_tree.specs.declared.rule.Rule.TheVariants as ru')
+def lst(xs): return '(' + ' ∷ '.join(xs + ['[]']) + ')' if xs else '[]'
+def tsym_a(s): return f'(Node nt.{s[1]})' if s[0] == 'N' else f'(Token {("te." + s[1]) if s[1] in SETS else "(te.Is cl." + s[1] + ")"} ac.{s[2]})'
+def edge_a(x):
+    a, s, n = x
+    return f'e {tsym_a(s)} {n}' if a is None else f'after (record {{ class = cl.{a[0]}; act = ac.{a[1]} }}) {tsym_a(s)} {n}'
+for n, q in enumerate(P):
+    if q['items']: A += f'    -- {n}: ' + '; '.join(show(*x) for x in q['items'][:2]) + (' ..' if len(q['items']) > 2 else '') + '\n'
+    else: A += f'    -- {n}: ' + ('a token' if n == 0 else 'a declarator was read') + '\n'
+    lab = f'(label ru.{q["name"][0]} {q["name"][1]})' if q['name'] else 'None'
+    A += f'    row {lst([edge_a(x) for x in q["edges"]])} {lab} {"(Some te.Typed)" if q["bars"] else "None"} {"(head nt.%s %d)" % q["corner"] if q["corner"] else "None"} {"(ways %d %d)" % q["turn"] if q["turn"] else "None"} {"true" if is_named[n] else "false"} {q["home"]} {lst(["cl." + c for c in order(ends[n])])} {lst(["i %d %d" % x for x in q["items"]])} ∷\n'
+A += '    []\n\nunfoldable pub goals : List Goal\ngoals =\n'
+for g in GOALS:
+    A += f'    -- {g}\n    record {{ kinds = {lst([str(z) for z in K[g]])}; openers = {lst([str(z) for z in openers[g]])}; suffixes = {lst([str(z) for z in suffixes[g]])}; firsts = {lst(["cl." + c for c in order(F[g])])}; goes = {lst(["cl." + c for c in order(goes[g])])} }} ∷\n'
+A += '''    []
+
+-- the places where the productions begin, by the numbers of these
+unfoldable pub starts : List ℕ
+starts = ''' + ' ∷ '.join([str(START[i]) for i in range(len(PRODS))] + ['[]']) + '''
+
+abbrev pub number : Nonterminal → ℕ
+''' + ''.join(f'number nt.{g} = {i}\n' for i, g in enumerate(GOALS)) + '''
+abbrev pub place_of : Option Place → Place
+place_of None = nowhere
+place_of (Some p) = p
+
+abbrev pub goal_of : Option Goal → Goal
+goal_of None = nothing
+goal_of (Some g) = g
+
+unfoldable pub place : ℕ → Place
+place q = place_of (slice_get places q)
+
+unfoldable pub goal : ℕ → Goal
+goal g = goal_of (slice_get goals g)
+
+unfoldable pub edges : ℕ → List Edge
+edges q = (place q).edges
+
+unfoldable pub name_of : ℕ → Option Label
+name_of q = (place q).label
+
+unfoldable pub bar_of : ℕ → Option Terminal
+bar_of q = (place q).bar
+
+unfoldable pub bars : ℕ → List Class
+bars q = barred (place q).bar
+
+unfoldable pub corner : ℕ → Option Head
+corner q = (place q).corner
+
+unfoldable pub turning : ℕ → Option Ways
+turning q = (place q).turning
+
+unfoldable pub is_named : ℕ → Bool
+is_named q = (place q).named
+
+unfoldable pub home : ℕ → ℕ
+home q = (place q).home
+
+unfoldable pub ends : ℕ → List Class
+ends q = (place q).ends
+
+unfoldable pub items : ℕ → List Item
+items q = (place q).items
+
+unfoldable pub kinds : Nonterminal → List ℕ
+kinds g = (goal (number g)).kinds
+
+unfoldable pub openers : Nonterminal → List ℕ
+openers g = (goal (number g)).openers
+
+unfoldable pub suffixes : Nonterminal → List ℕ
+suffixes g = (goal (number g)).suffixes
+
+unfoldable pub firsts : Nonterminal → List Class
+firsts g = (goal (number g)).firsts
+
+unfoldable pub goes : Nonterminal → List Class
+goes g = (goal (number g)).goes
+
+-- the place after a part
+abbrev pub turned : Option Ways → ℕ → Bool → ℕ
+turned None q b = q
+turned (Some w) q b = cond b w.named w.other
+
+unfoldable pub turn : ℕ → ℕ → ℕ
+turn q z = turned (turning q) q (is_named z)
+
+-- the lists as the code has them
+abbrev edges_in : List Place → List Edge
+edges_in [] = []
+edges_in (p ∷ ps) = p.edges ++ edges_in ps
+
+abbrev flat_map : {X : Type 0} → (Goal → List X) → List Goal → List X
+flat_map f [] = []
+flat_map f (g ∷ gs) = f g ++ flat_map f gs
+
+unfoldable pub all_edges : List Edge
+all_edges = edges_in places
+
+unfoldable pub all_kinds : List ℕ
+all_kinds = flat_map (λ g. g.kinds) goals
+
+unfoldable pub all_openers : List ℕ
+all_openers = flat_map (λ g. g.openers) goals
+
+unfoldable pub all_suffixes : List ℕ
+all_suffixes = flat_map (λ g. g.suffixes) goals
+
+unfoldable pub all_firsts : List Class
+all_firsts = flat_map (λ g. g.firsts) goals
+
+abbrev rows_from : ℕ → List Place → List Row
+rows_from n [] = []
+rows_from n (p ∷ ps) = record { first = n; last = n + length p.edges; label = p.label; bar = p.bar; corner = p.corner; turning = p.turning; named = p.named } ∷ rows_from (n + length p.edges) ps
+
+abbrev span : ℕ → ℕ → Span
+span n k = record { from = n; to = n + k }
+
+abbrev goal_rows_from : ℕ → ℕ → ℕ → ℕ → List Goal → List GoalRow
+goal_rows_from a b c d [] = []
+goal_rows_from a b c d (g ∷ gs) =
+    record { kinds = span a (length g.kinds); openers = span b (length g.openers); suffixes = span c (length g.suffixes); firsts = span d (length g.firsts) }
+    ∷ goal_rows_from (a + length g.kinds) (b + length g.openers) (c + length g.suffixes) (d + length g.firsts) gs
+
+unfoldable pub rows : List Row
+rows = rows_from 0 places
+
+unfoldable pub goal_rows : List GoalRow
+goal_rows = goal_rows_from 0 0 0 0 goals
+'''
+A = A.replace('slice_get, slice_range}', 'slice_get, length, ◌+◌}')
+w('specs/Table.antt', A)
+L = '''-- Every class, and numbers that tell apart.
+use Rattle.std.proofs.Common.{◌≡◌, ℕ, ◌+◌, List, [], ◌∷◌, refl, ap, sym, ◌∙◌, arith}
+use Rattle.std.specs.Prelude.{Option, Some, None, slice_get}
+use Rattle.cl_tree.specs.declared.class.Class.{Class}
+use Rattle.cl_tree.specs.declared.class.Class.TheVariants as cl
+use Rattle.cl_tree.specs.declared.nonterminal.Nonterminal.{Nonterminal}
+use Rattle.cl_tree.specs.declared.nonterminal.Nonterminal.TheVariants as nt
+use Rattle.cl_tree.specs.declared.grammar.Act.{Act}
+use Rattle.cl_tree.specs.declared.grammar.Act.TheVariants as ac
+use Rattle.cl_tree.specs.declared.rule.Rule.{Rule}
+use Rattle.cl_tree.specs.declared.rule.Rule.TheVariants as ru
+use Rattle.cl_expr.specs.Table.{number}
+
+'''
+for one, ty, m, xs in (('class', 'Class', 'cl', CLASSES), ('goal', 'Nonterminal', 'nt', GOALS), ('act', 'Act', 'ac', ACTS), ('rule', 'Rule', 'ru', ['Token', 'Hole', 'Bad'] + RULES_TREE)):
+    L += f'abbrev pub all_{one}s : List {ty}\nall_{one}s = {" ∷ ".join([m + "." + x for x in xs] + ["[]"])}\n\n'
+    if one == 'goal': num = 'number'
+    else:
+        num = one + '_number'
+        L += f'abbrev pub {num} : {ty} → ℕ\n' + ''.join(f'{num} {m}.{x} = {i}\n' for i, x in enumerate(xs)) + '\n'
+    L += f'pub numbered_{one} : (x : {ty}) → slice_get all_{one}s ({num} x) ≡ Some x\n' + ''.join(f'numbered_{one} {m}.{x} = refl\n' for i, x in enumerate(xs)) + '\n'
+    L += f'some_{one} : {{x y : {ty}}} → Some x ≡ Some y → x ≡ y\nsome_{one} e = cc\n\n'
+    L += f'pub same_{one}_is : (x y : {ty}) → {num} x ≡ {num} y → x ≡ y\nsame_{one}_is x y e = some_{one} (sym (numbered_{one} x) ∙ ap (λ (n : ℕ). slice_get all_{one}s n) e ∙ numbered_{one} y)\n\n'
+w('proofs/All.antt', L.rstrip() + '\n')
+if __name__ == '__main__': print(len(flat_edges), len(P))

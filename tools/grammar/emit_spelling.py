@@ -1,0 +1,136 @@
+"""Writes crates/cl_tree/src/spelling.rt and specs/Spellings.antt: the words and punctuators of the grammar."""
+from emit_tree import *
+KEY = "Sizeof Alignof Generic Default Case If Else Switch While Do For Goto Continue Break Return StaticAssert Typedef Extern Static ThreadLocal Auto Register Void Char Short Int Long Float Double Signed Unsigned Bool Struct Union Enum Const Restrict Volatile Atomic Inline Noreturn Alignas".split()
+TYPES = set("Typedef Extern Static ThreadLocal Auto Register Void Char Short Int Long Float Double Signed Unsigned Bool Struct Union Enum Const Restrict Volatile Atomic Inline Noreturn Alignas".split())
+WORDS_ = sorted([(word(c), 'Atomic' if c == 'Atomic' else c, 'Type' if c in TYPES else 'Other') for c in KEY] + [('_Complex', 'Other', 'Other'), ('_Imaginary', 'Other', 'Other')])
+PUN = [(s, c) for c, s in SPELL.items() if c not in ('StarBracket', 'LastComma', 'DesignationComma')] + [('<:', 'LeftBracket'), (':>', 'RightBracket'), ('<%', 'LeftBrace'), ('%>', 'RightBrace')]
+AHEAD = dict(Colon='Colon', RightBracket='Bracket', RightBrace='End', Ellipsis='End', LeftBracket='Designator', Dot='Designator', LeftParen='Paren')
+RAW = dict(LeftParen='Paren', Star='Star', Comma='Comma', Atomic='Atomic')
+# the commonest first
+FREQ = "LeftParen RightParen Comma Semicolon Equal Star Arrow LeftBrace RightBrace Dot LeftBracket RightBracket Ampersand Plus Minus Colon".split()
+PUN.sort(key=lambda x: FREQ.index(x[1]) if x[1] in FREQ and x[0] not in ('<:', ':>', '<%', '%>') else 99)
+def raw_rs(c): return f'Raw::{RAW[c]}' if c in RAW else f'Raw::Plain(Class::{c})'
+def raw_a(c): return f'raw.{RAW[c]}' if c in RAW else f'(raw.Plain cl.{c})'
+PUNCTS = [(s, c, AHEAD.get(c, 'Other')) for s, c in PUN]
+if __name__ == '__main__':
+    o = '''//! The keywords and punctuators of the grammar.
+
+ghost use Rattle.std.specs.Prelude.{◌≡◌, map};
+ghost use Rattle.cl_tree.specs.Spellings as s;
+
+use crate::class::Class;
+use crate::shape::{Ahead, Raw, Sort};
+use cl_base::{Kind, PpToken};
+
+/// A spelling, and what it stands for.
+#[derive(Clone, Copy)]
+pub struct Spelling {
+    pub text: &'static [u8],
+    pub sort: Sort,
+}
+
+'''
+    def tab(name, rows):
+        return f'static {name}: [Spelling; {len(rows)}] = [\n' + ''.join(f'    Spelling {{ text: b"{s}", sort: Sort {{ raw: {raw_rs(c)}, ahead: Ahead::{a} }} }},\n' for s, c, a in rows) + '];\n\n'
+    o += '/// The keywords (N1570 6.4.1). Those of complex types stand in no production.\n' + tab('KEYWORDS', WORDS_) + '/// The punctuators of the grammar (N1570 6.4.6); `#` and `##` are none.\n' + tab('PUNCTUATORS', PUNCTS)
+    o += '''fn keywords() -> &'static [Spelling]
+    ensures { map s.plain result.now ≡ s.keywords }
+{
+    &KEYWORDS
+}
+
+fn punctuators() -> &'static [Spelling]
+    ensures { map s.plain result.now ≡ s.punctuators }
+{
+    &PUNCTUATORS
+}
+
+/// What a spelling stands for in a table, or else this.
+fn find(table: &[Spelling], text: &[u8], other: Sort) -> Sort
+    ensures { result ≡ s.find (map s.plain table.now) text.now other }
+{
+    for row in table {
+        if row.text == text {
+            return row.sort;
+        }
+    }
+    other
+}
+
+/// What a token is by itself, and to the one before it.
+#[tactic(auto, unfolding(crate::specs::Spellings::sort_of))]
+pub fn sort_of(token: &PpToken) -> Sort
+    ensures { result ≡ s.sort_of token.now }
+{
+    match token.kind {
+        Kind::Ident => find(keywords(), token.text.bytes(), plain(Raw::Word)),
+        Kind::Number => plain(Raw::Plain(Class::Constant)),
+        Kind::Char => plain(Raw::Plain(Class::Constant)),
+        Kind::Str => plain(Raw::Plain(Class::String)),
+        Kind::Header => plain(Raw::Plain(Class::Other)),
+        Kind::Punct => find(punctuators(), token.text.bytes(), plain(Raw::Plain(Class::Other))),
+        Kind::Other => plain(Raw::Plain(Class::Other)),
+    }
+}
+
+fn plain(raw: Raw) -> Sort
+    ensures { result ≡ s.sort raw }
+{
+    Sort {
+        raw,
+        ahead: Ahead::Other,
+    }
+}
+'''
+    w('src/spelling.rt', o)
+    a = '''-- The keywords and punctuators of the grammar, and what they stand for.
+use Rattle.std.specs.Prelude.{ℕ, List, [], ◌∷◌, Bool, true, false, cond, nat_eq, codes}
+use Rattle.std.specs.Cmp.Lexicographic.{pointwise}
+use Rattle.cl_base.specs.declared.token.Kind.{Kind}
+use Rattle.cl_base.specs.declared.token.Kind.TheVariants as kind
+use Rattle.cl_base.specs.declared.token.PpToken.{PpToken}
+use Rattle.cl_tree.specs.declared.class.Class.TheVariants as cl
+use Rattle.cl_tree.specs.declared.shape.Raw.{Raw}
+use Rattle.cl_tree.specs.declared.shape.Raw.TheVariants as raw
+use Rattle.cl_tree.specs.declared.shape.Ahead.{Ahead}
+use Rattle.cl_tree.specs.declared.shape.Ahead.TheVariants as ahead
+use Rattle.cl_tree.specs.declared.shape.Sort.{Sort}
+use Rattle.cl_tree.specs.declared.spelling.Spelling.{Spelling as Row}
+
+-- a spelling, and what it stands for
+pub record Spelling : Type 0 where
+  pub text : List ℕ
+  pub sort : Sort
+
+abbrev pub plain : Row → Spelling
+plain r = record { text = r.text.now; sort = r.sort }
+
+abbrev pub spelled : List ℕ → Raw → Ahead → Spelling
+spelled s r a = record { text = s; sort = record { raw = r; ahead = a } }
+
+abbrev pub sort : Raw → Sort
+sort r = record { raw = r; ahead = ahead.Other }
+
+'''
+    def taba(name, doc, rows):
+        return f'-- {doc}\nunfoldable pub {name} : List Spelling\n{name} =\n' + ''.join(f'    spelled (codes "{s}") {raw_a(c)} ahead.{x} ∷\n' for s, c, x in rows) + '    []\n\n'
+    a += taba('keywords', 'the keywords (6.4.1)', WORDS_) + taba('punctuators', 'the punctuators of the grammar (6.4.6)', PUNCTS)
+    a += '''-- what a spelling stands for in a table, or else this
+abbrev pub find : List Spelling → List ℕ → Sort → Sort
+find [] text other = other
+find (r ∷ rs) text other = cond (pointwise nat_eq r.text text) r.sort (find rs text other)
+
+-- what a token is: a keyword is never an identifier, and a number or a character constant is a constant
+abbrev pub sort_by : Kind → List ℕ → Sort
+sort_by kind.Ident text = find keywords text (sort raw.Word)
+sort_by kind.Number text = sort (raw.Plain cl.Constant)
+sort_by kind.Char text = sort (raw.Plain cl.Constant)
+sort_by kind.Str text = sort (raw.Plain cl.String)
+sort_by kind.Header text = sort (raw.Plain cl.Other)
+sort_by kind.Punct text = find punctuators text (sort (raw.Plain cl.Other))
+sort_by kind.Other text = sort (raw.Plain cl.Other)
+
+unfoldable pub sort_of : PpToken → Sort
+sort_of token = sort_by token.kind token.text
+'''
+    w('specs/Spellings.antt', a)

@@ -1,0 +1,270 @@
+"""Writes crates/cl_tree/src/{rule,class,nonterminal,grammar}.rt and specs/Grammar.antt from annex.py."""
+import os, sys
+from annex import *
+from places import GOALS
+ROOT = os.path.join(os.path.dirname(os.path.abspath(__file__)), '..', '..', 'crates', 'cl_tree')
+SECTIONS = dict(PrimaryExpression='6.5.1', GenericSelection='6.5.1.1', GenericAssocList='6.5.1.1', GenericAssociation='6.5.1.1', PostfixExpression='6.5.2', ArgumentExpressionList='6.5.2', UnaryExpression='6.5.3',
+  UnaryOperator='6.5.3', CastExpression='6.5.4', MultiplicativeExpression='6.5.5', AdditiveExpression='6.5.6', ShiftExpression='6.5.7', RelationalExpression='6.5.8', EqualityExpression='6.5.9', AndExpression='6.5.10',
+  ExclusiveOrExpression='6.5.11', InclusiveOrExpression='6.5.12', LogicalAndExpression='6.5.13', LogicalOrExpression='6.5.14', ConditionalExpression='6.5.15', AssignmentExpression='6.5.16', AssignmentOperator='6.5.16',
+  Expression='6.5.17', ConstantExpression='6.6', Declaration='6.7', DeclarationSpecifiers='6.7', OtherSpecifier='6.7', LaterSpecifier='6.7', InitDeclaratorList='6.7', InitDeclarator='6.7', StorageClassSpecifier='6.7.1',
+  TypeSpecifier='6.7.2', LaterTypeSpecifier='6.7.2', StructOrUnionSpecifier='6.7.2.1', StructOrUnion='6.7.2.1', StructDeclarationList='6.7.2.1', StructDeclaration='6.7.2.1', SpecifierQualifierList='6.7.2.1',
+  LaterQualifier='6.7.2.1', StructDeclaratorList='6.7.2.1', StructDeclarator='6.7.2.1', EnumSpecifier='6.7.2.2', EnumeratorList='6.7.2.2', Enumerator='6.7.2.2', AtomicTypeSpecifier='6.7.2.4', TypeQualifier='6.7.3',
+  FunctionSpecifier='6.7.4', AlignmentSpecifier='6.7.5', Declarator='6.7.6', DirectDeclarator='6.7.6', ParameterDeclarator='6.7.6', DirectParameterDeclarator='6.7.6', Pointer='6.7.6', TypeQualifierList='6.7.6',
+  ParameterTypeList='6.7.6', ParameterList='6.7.6', ParameterDeclaration='6.7.6', IdentifierList='6.7.6', TypeName='6.7.7', AbstractDeclarator='6.7.7', DirectAbstractDeclarator='6.7.7', TypedefName='6.7.8',
+  Initializer='6.7.9', InitializerList='6.7.9', Designation='6.7.9', DesignatorList='6.7.9', Designator='6.7.9', StaticAssertDeclaration='6.7.10',
+  Statement='6.8', LabeledStatement='6.8.1', CompoundStatement='6.8.2', BlockItemList='6.8.2', BlockItem='6.8.2', ExpressionStatement='6.8.3', SelectionStatement='6.8.4', IterationStatement='6.8.5', JumpStatement='6.8.6',
+  TranslationUnit='6.9', ExternalDeclaration='6.9', FunctionDefinition='6.9.1', AnyDeclarator='6.7.6', DirectAnyDeclarator='6.7.6')
+EXTRA_DOC = dict(OtherSpecifier='A specifier of a declaration that is no type specifier', LaterSpecifier='A specifier of a declaration after a type specifier', LaterTypeSpecifier='A type specifier that is no typedef name: any after another one',
+  LaterQualifier='A qualifier, or a type specifier after another one', ParameterDeclarator='A declarator of a parameter: after its `(` a type begins parameters', DirectParameterDeclarator='A direct-declarator of a parameter',
+  AnyDeclarator='A declarator of a parameter, or an abstract one', DirectAnyDeclarator='A direct-declarator of a parameter, or an abstract one')
+import re
+def dashed(n): return re.sub(r'(?<=[a-z])(?=[A-Z])', '-', n).lower().replace('and-expression', 'AND-expression') if n == 'AndExpression' else re.sub(r'(?<=[a-z])(?=[A-Z])', '-', n).lower()
+STD = {'GenericAssocList': 'generic-assoc-list', 'AndExpression': 'AND-expression', 'ExclusiveOrExpression': 'exclusive-OR-expression', 'InclusiveOrExpression': 'inclusive-OR-expression', 'LogicalAndExpression': 'logical-AND-expression',
+  'LogicalOrExpression': 'logical-OR-expression', 'StaticAssertDeclaration': 'static_assert-declaration', 'InitDeclaratorList': 'init-declarator-list', 'LabeledStatement': 'labeled-statement'}
+def std(n): return STD.get(n, dashed(n))
+SPELL = dict(Dot='.', Arrow='->', PlusPlus='++', MinusMinus='--', Ampersand='&', Star='*', StarBracket='*` before `]', Plus='+', Minus='-', Tilde='~', Bang='!', Slash='/', Percent='%', ShiftLeft='<<', ShiftRight='>>', Less='<', Greater='>', LessEqual='<=',
+  GreaterEqual='>=', EqualEqual='==', BangEqual='!=', Caret='^', Bar='|', AndAnd='&&', OrOr='||', Question='?', Colon=':', Semicolon=';', Ellipsis='...', Comma=',', LastComma=',` before `}` or `...', DesignationComma=',` before `[` or `.', Equal='=', StarEqual='*=',
+  SlashEqual='/=', PercentEqual='%=', PlusEqual='+=', MinusEqual='-=', ShiftLeftEqual='<<=', ShiftRightEqual='>>=', AmpersandEqual='&=', CaretEqual='^=', BarEqual='|=', LeftParen='(', RightParen=')', LeftBracket='[', RightBracket=']', LeftBrace='{', RightBrace='}')
+CLASS_DOC = dict(Ident='An identifier that is no typedef name', IdentColon='The same directly before `:`', TypedefName='An identifier that is visible as a typedef name', TypedefColon='The same directly before `:`', Constant='A number or a character constant', String='A string literal',
+  LeftParen='`(` before what begins no type', TypeParen='`(` before what may begin a type', LiteralParen='The same where its partner stands directly before `{`', AtomicParen='`_Atomic` directly before `(`', Other='A token that no production takes')
+WORDS = dict(Sizeof='sizeof', Alignof='_Alignof', Generic='_Generic', StaticAssert='_Static_assert', ThreadLocal='_Thread_local', Bool='_Bool', Atomic='_Atomic', Noreturn='_Noreturn', Alignas='_Alignas')
+def word(c): return WORDS.get(c, c.lower())
+def sym_rs(s): return f'Symbol::Node(Nonterminal::{s[1]})' if s[0] == 'N' else f'Symbol::Token({term_rs(s[1])}, Act::{s[2]})'
+def term_rs(t): return f'Terminal::{t}' if t in SETS else f'Terminal::Is(Class::{t})'
+def term_a(t): return f'te.{t}' if t in SETS else f'(is cl.{t})'
+def sym_a(s): return f'(n nt.{s[1]})' if s[0] == 'N' else (f'(t {term_a(s[1])})' if s[2] == 'Stay' else f'(act {term_a(s[1])} ac.{s[2]})')
+PART = {'1': 'One', '?': 'Optional', '*': 'Many'}
+PART_A = {'1': 'one', '?': 'opt', '*': 'many'}
+def w(f, s):
+    f = os.path.join(ROOT, f); os.makedirs(os.path.dirname(f), exist_ok=True); open(f, 'w').write(s)
+def enum(name, doc, items, derive='Clone, Copy, Debug, PartialEq, Eq'):
+    return f'/// {doc}\n#[derive({derive})]\npub enum {name} {{\n' + ''.join(f'    /// {d}.\n    {x},\n' for x, d in items) + '}\n'
+if __name__ == '__main__':
+    w('src/rule.rt', enum('Rule', 'What a tree is: a rule of the grammar (N1570 A.2), one token, or what is no tree of the grammar.',
+      [('Token', 'One token'), ('Hole', 'A range that another parser reads'), ('Bad', 'Tokens that are no item of a block')] + [(r, f'{std(r)} ({SECTIONS[r]})') for r in RULES_TREE]))
+    w('src/class.rt', enum('Class', 'What the grammar tells of a token. Some classes look at the token after it, and at the partner of a `(`.',
+      [(c, CLASS_DOC.get(c) or ('`' + (SPELL[c] if c in SPELL else word(c)) + '`')) for c in CLASSES]))
+    w('src/nonterminal.rt', enum('Nonterminal', 'A nonterminal of the grammar: those of N1570 A.2.1 and A.2.2, and some that tell apart where one of them stands.',
+      [(g, (EXTRA_DOC[g] if g in EXTRA_DOC else std(g)) + f' ({SECTIONS[g]})') for g in GOALS]))
+    o = '''//! The grammar of expressions and declarations: N1570 A.2.1 and A.2.2, in the standard's order.
+
+ghost use Rattle.std.specs.Prelude.{◌≡◌, map};
+ghost use Rattle.cl_tree.specs.Grammar as g;
+
+use crate::class::Class;
+use crate::nonterminal::Nonterminal;
+use crate::rule::Rule;
+
+'''
+    o += enum('Terminal', 'The tokens that a production takes at a place.', [('Is(Class)', 'Those of one class'), ('Name', 'An identifier, a typedef name too'), ('Open', 'Any `(`'), ('TypeOpen', '`(` before what may begin a type'), ('Typed', 'A typedef name')], 'Clone, Copy') + '\n'
+    o += enum('Act', 'What reading a token does to the names that are declared.', [('Stay', 'Nothing'), ('Typedef', 'What is declared from here on is a typedef name'), ('Name', 'The token is the name that is being declared'), ('Declare', 'The name that is being declared is so from here on'),
+      ('Finish', 'The same, and what is declared after it is no typedef name'), ('Forget', 'The name that is being declared is a member and hides nothing'), ('Open', 'A list of parameters, members or enumerators begins'), ('Close', 'A list of parameters ends, and its names with it'), ('Shut', 'A list of members or enumerators ends; its names stay')], 'Clone, Copy') + '\n'
+    o += '''/// A symbol of a right side.
+#[derive(Clone, Copy)]
+pub enum Symbol {
+    /// A token, and what it does to the names.
+    Token(Terminal, Act),
+    /// A tree of a nonterminal.
+    Node(Nonterminal),
+}
+
+/// A part of a right side.
+#[derive(Clone, Copy)]
+pub enum Part {
+    /// Stands once.
+    One(Symbol),
+    /// May be left out.
+    Optional(Symbol),
+    /// Stands any number of times, also not at all.
+    Many(Symbol),
+}
+
+/// A separator of a list's members, and what it does to the names.
+#[derive(Clone, Copy)]
+pub struct Separator {
+    pub class: Class,
+    pub act: Act,
+}
+
+/// How a list goes on after a member: a separator, and the part of the right side with which the next member begins.
+#[derive(Clone, Copy)]
+pub struct Again {
+    pub separator: Separator,
+    pub part: u8,
+}
+
+/// A production that makes a node: its nonterminal, the node's rule and the number of the alternative, from 0, its right side
+/// as a range of `parts()`, how a list goes on as a range of `agains()`, and the tokens that may not follow it.
+#[derive(Clone, Copy)]
+pub struct Production {
+    pub of: Nonterminal,
+    pub rule: Rule,
+    pub choice: u8,
+    pub first: u16,
+    pub last: u16,
+    pub again_first: u16,
+    pub again_last: u16,
+    pub bar: Option<Terminal>,
+}
+
+/// A production whose right side is one nonterminal: its tree stands for the other one.
+#[derive(Clone, Copy)]
+pub struct Unit {
+    pub of: Nonterminal,
+    pub by: Nonterminal,
+}
+
+'''
+    flat = [x for p in PRODS for x in p['parts']]; more = [x for p in PRODS for x in p['again']]
+    o += f'static PARTS: [Part; {len(flat)}] = [\n' + ''.join(f'    Part::{PART[k]}({sym_rs(s)}),\n' for k, s in flat) + '];\n\n'
+    o += f'static AGAIN: [Again; {len(more)}] = [\n' + ''.join(f'    Again {{ separator: Separator {{ class: Class::{c}, act: Act::{a} }}, part: {i} }},\n' for c, a, i in more) + '];\n\n'
+    at = [0, 0]
+    def prod_rs(p):
+        bar = f'Some({term_rs("Typed")})' if p['bars'] else 'None'; assert not p['bars'] or p['bars'] == SETS['Typed']
+        f, m = at; at[0] += len(p['parts']); at[1] += len(p['again'])
+        return f'    Production {{ of: Nonterminal::{p["of"]}, rule: Rule::{p["rule"]}, choice: {p["choice"]}, first: {f}, last: {at[0]}, again_first: {m}, again_last: {at[1]}, bar: {bar} }},\n'
+    o += f'static PRODUCTIONS: [Production; {len(PRODS)}] = [\n' + ''.join(prod_rs(p) for p in PRODS) + '];\n\n'
+    units = [(g, u) for g in GOALS for u in UNITS.get(g, [])]
+    o += f'static UNITS: [Unit; {len(units)}] = [\n' + ''.join(f'    Unit {{ of: Nonterminal::{g}, by: Nonterminal::{u} }},\n' for g, u in units) + '];\n\n'
+    o += '''/// The parts of the right sides, one production's after the other's.
+pub fn parts() -> &'static [Part]
+    ensures { result.now ≡ g.all_parts }
+{
+    &PARTS
+}
+
+/// How the lists go on, one production's after the other's.
+pub fn agains() -> &'static [Again]
+    ensures { result.now ≡ g.all_agains }
+{
+    &AGAIN
+}
+
+/// The productions that make a node.
+pub fn productions() -> &'static [Production]
+    ensures { map g.plain result.now ≡ g.productions }
+{
+    &PRODUCTIONS
+}
+
+/// The productions whose right side is one nonterminal.
+pub fn units() -> &'static [Unit]
+    ensures { result.now ≡ g.units }
+{
+    &UNITS
+}
+'''
+    w('src/grammar.rt', o)
+    a = '''-- The grammar of expressions and declarations: N1570 A.2.1 and A.2.2, in the standard's order and with its section numbers.
+-- Written by tools/grammar/emit_tree.py from tools/grammar/annex.py.
+use Rattle.std.specs.Prelude.{ℕ, List, [], ◌∷◌, ◌++◌, Option, Some, None, slice_range}
+use Rattle.cl_tree.specs.declared.class.Class.{Class}
+use Rattle.cl_tree.specs.declared.class.Class.TheVariants as cl
+use Rattle.cl_tree.specs.declared.rule.Rule.{Rule}
+use Rattle.cl_tree.specs.declared.rule.Rule.TheVariants as ru
+use Rattle.cl_tree.specs.declared.nonterminal.Nonterminal.{Nonterminal}
+use Rattle.cl_tree.specs.declared.nonterminal.Nonterminal.TheVariants as nt
+use Rattle.cl_tree.specs.declared.grammar.Terminal.{Terminal}
+use Rattle.cl_tree.specs.declared.grammar.Terminal.TheVariants as te
+use Rattle.cl_tree.specs.declared.grammar.Act.{Act}
+use Rattle.cl_tree.specs.declared.grammar.Act.TheVariants as ac
+use Rattle.cl_tree.specs.declared.grammar.Symbol.{Symbol}
+use Rattle.cl_tree.specs.declared.grammar.Symbol.TheVariants.{Token, Node}
+use Rattle.cl_tree.specs.declared.grammar.Part.{Part}
+use Rattle.cl_tree.specs.declared.grammar.Part.TheVariants.{One, Optional, Many}
+use Rattle.cl_tree.specs.declared.grammar.Again.{Again}
+use Rattle.cl_tree.specs.declared.grammar.Unit.{Unit as UnitRow}
+use Rattle.cl_tree.specs.declared.grammar.Production.{Production as ProductionRow}
+
+-- a production: its nonterminal, the rule and number of its node, its right side, how a list goes on, and which tokens may not follow
+pub record Production : Type 0 where
+  pub of : Nonterminal
+  pub rule : Rule
+  pub choice : ℕ
+  pub parts : List Part
+  pub again : List Again
+  pub bar : Option Terminal
+
+
+-- the classes of tokens that a terminal stands for
+abbrev pub takes : Terminal → List Class
+takes (te.Is k) = k ∷ []
+'''
+    for s, cs in SETS.items(): a += f'takes te.{s} = ' + ' ∷ '.join(f'cl.{c}' for c in cs) + ' ∷ []\n'
+    a += '''
+abbrev pub is : Class → Terminal
+is k = te.Is k
+
+-- a token, a token that does something to the names, a nonterminal
+abbrev pub t : Terminal → Symbol
+t k = Token k ac.Stay
+
+abbrev pub act : Terminal → Act → Symbol
+act k a = Token k a
+
+abbrev pub n : Nonterminal → Symbol
+n g = Node g
+
+abbrev pub one : Symbol → Part
+one x = One x
+
+abbrev pub opt : Symbol → Part
+opt x = Optional x
+
+abbrev pub many : Symbol → Part
+many x = Many x
+
+abbrev pub production : Nonterminal → Rule → ℕ → List Part → Production
+production g r c ps = record { of = g; rule = r; choice = c; parts = ps; again = []; bar = None }
+
+-- a list whose members are separated
+abbrev pub separated : Class → Act → ℕ → Again
+separated k a i = record { separator = record { class = k; act = a }; part = i }
+
+abbrev pub listed : Nonterminal → Rule → List Part → List Again → Production
+listed g r ps more = record { of = g; rule = r; choice = 0; parts = ps; again = more; bar = None }
+
+-- a production after which no typedef name may stand
+abbrev pub untyped : Nonterminal → Rule → ℕ → List Part → Production
+untyped g r c ps = record { of = g; rule = r; choice = c; parts = ps; again = []; bar = Some te.Typed }
+
+abbrev pub unit : Nonterminal → Nonterminal → UnitRow
+unit g u = record { of = g; by = u }
+
+-- the productions that make a node
+unfoldable pub productions : List Production
+productions =
+'''
+    last = None
+    for p in PRODS:
+        if p['of'] != last:
+            last = p['of']
+            a += f'    -- {EXTRA_DOC[last] if last in EXTRA_DOC else std(last)} ({SECTIONS[last]})\n'
+        ps = ' ∷ '.join([f'{PART_A[k]} {sym_a(s)}' for k, s in p['parts']] + ['[]'])
+        if p['again']:
+            ag = ' ∷ '.join([f'separated cl.{c} ac.{x} {i}' for c, x, i in p['again']] + ['[]'])
+            a += f'    listed nt.{p["of"]} ru.{p["rule"]} ({ps}) ({ag}) ∷\n'
+        else: a += f'    {"untyped" if p["bars"] else "production"} nt.{p["of"]} ru.{p["rule"]} {p["choice"]} ({ps}) ∷\n'
+    a += '    []\n\n-- the productions whose right side is one nonterminal: they make no node\nunfoldable pub units : List UnitRow\nunits =\n'
+    for g, u in units: a += f'    unit nt.{g} nt.{u} ∷\n'
+    a += '''    []
+
+abbrev pub parts_of : List Production → List Part
+parts_of [] = []
+parts_of (p ∷ ps) = p.parts ++ parts_of ps
+
+abbrev pub agains_of : List Production → List Again
+agains_of [] = []
+agains_of (p ∷ ps) = p.again ++ agains_of ps
+
+-- the right sides, one after the other, as the code has them
+unfoldable pub all_parts : List Part
+all_parts = parts_of productions
+
+unfoldable pub all_agains : List Again
+all_agains = agains_of productions
+
+abbrev pub plain : ProductionRow → Production
+plain p = record { of = p.of; rule = p.rule; choice = p.choice; parts = slice_range all_parts p.first p.last; again = slice_range all_agains p.again_first p.again_last; bar = p.bar }
+'''
+    w('specs/Grammar.antt', a)
