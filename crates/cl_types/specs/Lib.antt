@@ -1,0 +1,4 @@
+pub mod Compatible
+pub mod Form
+pub mod code
+pub mod formers

@@ -1,0 +1,10 @@
+//! The types of C, and the records of a translation unit.
+#![tactic(auto)]
+
+mod comparing;
+mod shared;
+mod types;
+
+pub use comparing::{compatible, is_enum, is_error, promoted, unqualified};
+pub use shared::Shared;
+pub use types::{Basic, CType, DeclNo, Length, Params, TagWord, basic_of};
