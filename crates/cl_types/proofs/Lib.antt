@@ -1,2 +1,3 @@
 pub mod Induction
+pub mod OwnLemmas
 pub mod PromotedLemmas

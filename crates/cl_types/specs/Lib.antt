@@ -1,4 +1,5 @@
 pub mod Compatible
+pub mod Composite
 pub mod Form
 pub mod code
 pub mod formers

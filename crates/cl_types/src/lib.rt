@@ -2,9 +2,12 @@
 #![tactic(auto)]
 
 mod comparing;
+mod composing;
+mod duplicates;
 mod shared;
 mod types;
 
 pub use comparing::{compatible, is_enum, is_error, promoted, unqualified};
+pub use composing::composite;
 pub use shared::Shared;
 pub use types::{Basic, CType, DeclNo, Length, Params, TagWord, basic_of};
