@@ -1,5 +1,6 @@
 pub mod Compatible
 pub mod Composite
 pub mod Form
+pub mod Print
 pub mod code
 pub mod formers
