@@ -5,6 +5,7 @@ use Rattle.cl_types.specs.declared.types.CType.TheFolds.{ind-CType, map-CType, m
 use Rattle.cl_types.specs.declared.types.CType.TheOpen.{CType-F, Params-F}
 use Rattle.cl_types.specs.declared.types.CType.TheViews.{out-CType, roll-CType, out-Params, roll-Params, the_lemmas}
 use Rattle.cl_types.specs.declared.types.Params.{Params}
+use Rattle.cl_types.specs.Form.{Form, Form as f, form}
 
 module _ (P : CType → Type 0) where
   abbrev pub Each : List CType → Type 0
@@ -15,13 +16,16 @@ module _ (P : CType → Type 0) where
   EachOf (Params-F.Proto ts v) = Each ts
   EachOf Params-F.NoProto = Unit {0}
 
+  abbrev pub Inside : Form CType Params → Type 0
+  Inside (f.Pointer t) = P t
+  Inside (f.Array t n) = P t
+  Inside (f.Function t ps) = P t × EachOf (out-Params ps)
+  Inside (f.Qualified q t) = P t
+  Inside (f.Atomic t) = P t
+  Inside _ = Unit {0}
+
   abbrev pub Within : CType-F CType Params → Type 0
-  Within (CType-F.Pointer t) = P t
-  Within (CType-F.Array t n) = P t
-  Within (CType-F.Function t ps) = P t × EachOf (out-Params ps)
-  Within (CType-F.Qualified q t) = P t
-  Within (CType-F.Atomic t) = P t
-  Within _ = Unit {0}
+  Within x = Inside (form x)
 
   abbrev Parameters : Params → Type 0
   Parameters ps = EachOf (out-Params ps)
@@ -49,3 +53,10 @@ module _ (P : CType → Type 0) where
   by_layers step = ind-CType P Parameters
       (λ x y is. step x (subst Within is (within_first y)))
       (λ x y is. subst EachOf (sym (out_roll x)) (subst EachOf is (listed_first y)))
+
+  out_roll_type : (x : CType-F CType Params) → out-CType (roll-CType x) ≡ x
+  out_roll_type x = search (rules, the_lemmas)
+
+  -- the same, of a type with its layer in view
+  pub by_forms : ((a : CType) → Inside (form (out-CType a)) → P a) → (t : CType) → P t
+  by_forms step = by_layers (λ x w. step (roll-CType x) (subst Within (sym (out_roll_type x)) w))

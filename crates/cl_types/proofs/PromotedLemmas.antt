@@ -9,10 +9,10 @@ use Rattle.cl_types.specs.Compatible.{compared, compared_by, promoted, Compared,
 use Rattle.cl_types.specs.Form.{form, listed, promoted_in}
 use Rattle.cl_types.proofs.Induction.{by_layers, Within}
 
-abbrev compared_params : Params → Option (List Compared × Bool)
+abbrev pub compared_params : Params → Option (List Compared × Bool)
 compared_params = fold-Params Compared (Option (List Compared × Bool)) compared_by listed
 
-abbrev promoted_params : Params → Option (List Bool × Bool)
+abbrev pub promoted_params : Params → Option (List Bool × Bool)
 promoted_params = fold-Params Bool (Option (List Bool × Bool)) (λ l. promoted_in (form l)) listed
 
 pub compared_roll : (x : CType-F CType Params) → compared (roll-CType x) ≡ compared_by (map-CType CType Params Compared (Option (List Compared × Bool)) compared compared_params x)
