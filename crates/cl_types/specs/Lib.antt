@@ -1,6 +1,7 @@
 pub mod Compatible
 pub mod Composite
 pub mod Form
+pub mod Normal
 pub mod Print
 pub mod code
 pub mod formers
