@@ -3,5 +3,6 @@ pub mod Composite
 pub mod Form
 pub mod Normal
 pub mod Print
+pub mod Qualify
 pub mod code
 pub mod formers
