@@ -1,10 +1,11 @@
 -- Conversions and operators over types (N1570 6.3.1, 6.5).
-use Rattle.std.specs.Prelude.{◌&&◌, ◌||◌, not, if◌then◌else◌, Bool, true, false, List, [], ◌∷◌, Option, Some, None}
+use Rattle.std.specs.Prelude.{◌&&◌, ◌||◌, not, nat_le, if◌then◌else◌, Bool, true, false, List, [], ◌∷◌, Option, Some, None}
 use Rattle.cl_types.specs.declared.types.Basic.{Basic}
 use Rattle.cl_types.specs.declared.types.Basic.TheVariants as basic_type
 use Rattle.cl_types.specs.declared.types.CType.{CType}
 use Rattle.cl_types.specs.declared.types.CType.TheVariants as make
 use Rattle.cl_types.specs.Compatible.{is_error}
+use Rattle.cl_types.specs.Form.{place}
 use Rattle.cl_conv.specs.declared.operands.Operand.{Operand}
 use Rattle.cl_conv.specs.declared.operators.BinaryOp.{BinaryOp}
 use Rattle.cl_conv.specs.declared.operators.BinaryOp.TheVariants as op
@@ -163,3 +164,11 @@ row_of op a b = if assigns op && not (is_place a) then None else first_row (rows
 -- an operator between two operands: of one in error, in error
 abbrev pub binary : BinaryOp → Operand → Operand → Option Operand
 binary op a b = if is_error a.ty || is_error b.ty then Some (value make.Error) else made_by (row_of op a b) a.ty b.ty
+
+abbrev pub is_converted_kind : Option Basic → Bool
+is_converted_kind None = false
+is_converted_kind (Some k) = nat_le 6 (place k)
+
+-- one of the types from `int` to `long double` in the list of 6.3.1.8
+abbrev pub is_converted : CType → Bool
+is_converted t = is_converted_kind (arithmetic t)

@@ -1,0 +1,10 @@
+//! Declaration specifiers and declarators: from words and derivations to types.
+#![tactic(auto)]
+
+mod base;
+mod deriving;
+mod storage;
+
+pub use base::{TypeWord, base_type};
+pub use deriving::{adjusted, array_of, atomic_of, function_of, pointer_to, with_qualifiers};
+pub use storage::{Declared, Flags, StorageWord, Stored, may_stand, stored};
