@@ -39,11 +39,11 @@ two v w =
     else None
 
 -- the storage of a declaration: at most one class, or `_Thread_local` and one of two (6.7.1p2)
-abbrev pub stored : List StorageWord → Option Stored
-stored [] = Some (stored_as 0 false)
-stored (w ∷ []) = Some (one w)
-stored (v ∷ w ∷ []) = two v w
-stored _ = None
+abbrev pub storage_of : List StorageWord → Option Stored
+storage_of [] = Some (stored_as 0 false)
+storage_of (w ∷ []) = Some (one w)
+storage_of (v ∷ w ∷ []) = two v w
+storage_of _ = None
 
 abbrev pub is_function : Declared → Bool
 is_function declares.Function = true

@@ -2,9 +2,9 @@
 #![tactic(auto)]
 
 mod base;
-mod deriving;
+mod making;
 mod storage;
 
 pub use base::{TypeWord, base_type};
-pub use deriving::{adjusted, array_of, atomic_of, function_of, pointer_to, with_qualifiers};
-pub use storage::{Declared, Flags, StorageWord, Stored, may_stand, stored};
+pub use making::{adjusted, array_of, atomic_of, function_of, incomplete, pointer_to, with_qualifiers};
+pub use storage::{Declared, Flags, StorageWord, Stored, may_stand, storage_of};

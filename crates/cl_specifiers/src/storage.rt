@@ -1,7 +1,7 @@
 //! Storage classes, and what else declaration specifiers say (N1570 6.7.1, 6.7.4, 6.7.5).
 
 ghost use Rattle.std.specs.Prelude.{◌≡◌};
-ghost use Rattle.cl_specifiers.specs.Storage.{alignment_may_stand, function_may_stand, is_function, is_shared, is_thread, is_unaligned, may_stand, number, one, storage_may_stand, stored, thread_may_stand, two};
+ghost use Rattle.cl_specifiers.specs.Storage.{alignment_may_stand, function_may_stand, is_function, is_shared, is_thread, is_unaligned, may_stand, number, one, storage_may_stand, storage_of, thread_may_stand, two};
 
 /// The storage-class specifiers.
 #[derive(Clone, Copy)]
@@ -106,8 +106,8 @@ fn two(first: StorageWord, second: StorageWord) -> Option<Stored>
 
 /// The storage that these words give. None comes exactly of two words or more, but for `_Thread_local` beside `static` or
 /// `extern` (6.7.1p2).
-pub fn stored(words: &[StorageWord]) -> Option<Stored>
-    ensures { result ≡ stored words.now }
+pub fn storage_of(words: &[StorageWord]) -> Option<Stored>
+    ensures { result ≡ storage_of words.now }
 {
     match words {
         [] => Some(Stored {

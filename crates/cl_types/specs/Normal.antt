@@ -29,6 +29,10 @@ nodes = fold-CType ℕ (Option (List ℕ × Bool)) (λ l. nodes_by (form l)) lis
 abbrev pub params_nodes : Params → ℕ
 params_nodes ps = listed_nodes (fold-Params ℕ (Option (List ℕ × Bool)) (λ l. nodes_by (form l)) listed ps)
 
+-- whether a type is made of at most 1,024 types
+abbrev pub is_small : CType → Bool
+is_small t = nat_le (nodes t) 1024
+
 -- what is left of a room, if so much is in it
 abbrev pub left_of : ℕ → ℕ → Option ℕ
 left_of room n = if nat_le n room then Some (room - n) else None

@@ -1,7 +1,7 @@
 //! How many types a type is made of.
 
-ghost use Rattle.std.specs.Prelude.{◌≡◌, ◌↔◌, ◌≤◌, IsTrue, map};
-ghost use Rattle.cl_types.specs.Normal.{nodes, params_nodes, all_nodes, left_of};
+ghost use Rattle.std.specs.Prelude.{◌≡◌, map};
+ghost use Rattle.cl_types.specs.Normal.{is_small, nodes, params_nodes, all_nodes, left_of};
 
 use crate::types::{CType, Params};
 
@@ -55,7 +55,10 @@ fn room_after_all(types: &[CType], room: u32) -> Option<u32>
 
 /// Whether a type is made of at most 1,024 types.
 pub fn is_small(t: &CType) -> bool
-    ensures { IsTrue result ↔ (nodes t.now ≤ 1024) }
+    ensures { result ≡ is_small t.now }
 {
-    room_after(t, MOST_NODES).is_some()
+    match room_after(t, MOST_NODES) {
+        Some(_) => true,
+        None => false,
+    }
 }
