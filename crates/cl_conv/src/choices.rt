@@ -6,7 +6,10 @@ ghost use Rattle.cl_conv.specs.Operators.{value};
 ghost use Rattle.cl_conv.specs.Unary.{assignable, call, choice, given, pointer_choice, takes_pointer, conditional, has_all, joined, joined_void, keeps_qualifiers, pointed, takes_count};
 
 use crate::conversions::usual;
-use crate::operands::{Operand, is_arithmetic, is_bool, is_pointer, is_scalar, is_void, object_and_void, same_pointers, same_record, stripped, target, value_type};
+use crate::operands::{
+    Operand, is_arithmetic, is_bool, is_pointer, is_scalar, is_void, object_and_void,
+    same_pointers, same_record, stripped, target, value_type,
+};
 use crate::operators::value;
 use crate::single::{is_pointer_type, pointed};
 use cl_base::{Duplicate, Mem};

@@ -9,7 +9,10 @@ ghost use Rattle.cl_conv.specs.Operands.{target, value_type};
 ghost use Rattle.cl_conv.specs.Operators.{Operands, BothArithmetic, BothInteger, BothScalar, ObjectAndInteger, IntegerAndObject, assigns, binary, designated, first_row, fit, is_place, made, made_by, object, pointer_and_null, promote, row_of, rows, same_objects, value};
 
 use crate::conversions::{promote, usual};
-use crate::operands::{Operand, is_arithmetic, is_array, is_const, is_function, is_integer, is_object_pointer, is_pointer, is_scalar, object_and_void, same_pointers, target, value_type};
+use crate::operands::{
+    Operand, is_arithmetic, is_array, is_const, is_function, is_integer, is_object_pointer,
+    is_pointer, is_scalar, object_and_void, same_pointers, target, value_type,
+};
 use cl_base::{Duplicate, Mem};
 use cl_types::{CType, is_error};
 use std::alloc::Global;

@@ -8,7 +8,10 @@ ghost use Rattle.cl_types.specs.declared.types.CType.TheVariants as make;
 ghost use Rattle.cl_conv.specs.Operands.{is_floating_type, is_pointer, is_scalar, target, value_type};
 
 use crate::conversions::promote;
-use crate::operands::{Operand, is_arithmetic, is_function, is_integer, is_object_pointer, is_pointer, is_scalar, is_void, stripped, value_type};
+use crate::operands::{
+    Operand, is_arithmetic, is_function, is_integer, is_object_pointer, is_pointer, is_scalar,
+    is_void, stripped, value_type,
+};
 use crate::operators::{designated, is_place, value};
 use cl_base::{Duplicate, Mem};
 use cl_types::{CType, Shared, is_error};

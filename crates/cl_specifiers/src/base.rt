@@ -82,7 +82,8 @@ fn is_sized(word: TypeWord, count: usize, words: &[TypeWord]) -> bool
 {
     let signs = signs(words);
     let ints = times(TypeWord::Int, words);
-    times(word, words) == count && (ints <= 1 && (signs <= 1 && words.len() == count + (ints + signs)))
+    times(word, words) == count
+        && (ints <= 1 && (signs <= 1 && words.len() == count + (ints + signs)))
 }
 
 fn is_int(words: &[TypeWord]) -> bool

@@ -127,3 +127,10 @@ fn constant(ty: CType) -> Operand {
         null: true,
     }
 }
+
+/// The three parts of a row.
+pub fn parts(row: &str) -> (&str, &str, &str) {
+    let (first, more) = row.split_once("; ").unwrap_or((row, ""));
+    let (second, third) = more.split_once("; ").unwrap_or((more, ""));
+    (first, second, third)
+}

@@ -1,4 +1,4 @@
-use crate::chains::chain;
+use crate::chains::{chain, parts};
 use cl_base::{Duplicate, Mem};
 use cl_specifiers::pointer_to;
 use cl_types::{CType, compatible, composite, either_way, is_small, print, with_itself};
@@ -8,68 +8,67 @@ use std::test::Fail;
 /// Two types; `-` where clang 14 and gcc 12 refuse them as the types of two declarations of one object or function with
 /// `-std=c11 -pedantic-errors`; else what clang calls a pointer to it then, or nothing where an enumeration is part of it, which
 /// this crate keeps and clang does not.
-const PAIRS: [(&str, &str, &str); 60] = [
-    ("iA", "i3*", "-"),
-    ("i3", "e", "-"),
-    ("i3*", "i0*)", "-"),
-    ("i3", "iG", "-"),
-    ("v(", "v(", "void (*)(void)"),
-    ("i)*3", "u*", "-"),
-    ("iA*", "i)", "-"),
-    ("i3", "I*", "-"),
-    ("i)*3", "v(", "-"),
-    ("i7*", "i0", "-"),
-    ("t", "c)", "-"),
-    ("ik", "c)", "-"),
-    ("I", "i3*", "-"),
-    ("I", "i0*", "-"),
-    ("i)*3", "i(*", "-"),
-    ("ik*", "i0*)", "-"),
-    ("i3", "i)", "-"),
-    ("ik*", "iF", "-"),
-    ("i)", "iG", "int (*)(double)"),
-    ("i(*", "l", "-"),
-    ("i)*", "i0", "-"),
-    ("v(", "i3", "-"),
-    ("I", "c)", "-"),
-    ("q", "i0*", "-"),
-    ("v(", "i.", "-"),
-    ("ik*", "t*", "-"),
-    ("ik", "i3*(", "-"),
-    ("i)", "q", "-"),
-    ("i0", "I", "-"),
-    ("i7*", "e3", "-"),
-    ("i)", "e3", "-"),
-    ("i)*", "ik", "-"),
-    ("q", "q", "long long *"),
-    ("t", "t", "struct T *"),
-    ("i0", "e3", ""),
-    ("i)*", "i)*", "int (**)()"),
-    ("i0*)", "i3*(", "int (*(*)(void))[3]"),
-    ("i3", "e3", ""),
-    ("i0", "i3", "int (*)[3]"),
-    ("i(*0", "i)*3", "int (*(*)[3])(void)"),
-    ("i3*", "i0*", "int (**)[3]"),
-    ("i0*", "i3*", "int (**)[3]"),
-    ("e*", "i*", ""),
-    ("e3", "i3", ""),
-    ("i3", "i0", "int (*)[3]"),
-    ("i", "e", ""),
-    ("i3*(", "i0*)", "int (*(*)(void))[3]"),
-    ("i)*", "i(*", "int (**)(void)"),
-    ("e3", "i0", ""),
-    ("iG", "i)", "int (*)(double)"),
-    ("i7*", "i0*", "int (**)[7]"),
-    ("i0", "i7", "int (*)[7]"),
-    ("v)", "v(", "void (*)(void)"),
-    ("i*", "e*", ""),
-    ("i)", "i(", "int (*)(void)"),
-    ("i(*", "i)*", "int (**)(void)"),
-    ("i0*", "i7*", "int (**)[7]"),
-    ("i7", "i0", "int (*)[7]"),
-    ("v(", "v)", "void (*)(void)"),
-    ("e", "i", ""),
-];
+const PAIRS: &str = "\
+iA; i3*; -\n\
+i3; e; -\n\
+i3*; i0*); -\n\
+i3; iG; -\n\
+v(; v(; void (*)(void)\n\
+i)*3; u*; -\n\
+iA*; i); -\n\
+i3; I*; -\n\
+i)*3; v(; -\n\
+i7*; i0; -\n\
+t; c); -\n\
+ik; c); -\n\
+I; i3*; -\n\
+I; i0*; -\n\
+i)*3; i(*; -\n\
+ik*; i0*); -\n\
+i3; i); -\n\
+ik*; iF; -\n\
+i); iG; int (*)(double)\n\
+i(*; l; -\n\
+i)*; i0; -\n\
+v(; i3; -\n\
+I; c); -\n\
+q; i0*; -\n\
+v(; i.; -\n\
+ik*; t*; -\n\
+ik; i3*(; -\n\
+i); q; -\n\
+i0; I; -\n\
+i7*; e3; -\n\
+i); e3; -\n\
+i)*; ik; -\n\
+q; q; long long *\n\
+t; t; struct T *\n\
+i0; e3; \n\
+i)*; i)*; int (**)()\n\
+i0*); i3*(; int (*(*)(void))[3]\n\
+i3; e3; \n\
+i0; i3; int (*)[3]\n\
+i(*0; i)*3; int (*(*)[3])(void)\n\
+i3*; i0*; int (**)[3]\n\
+i0*; i3*; int (**)[3]\n\
+e*; i*; \n\
+e3; i3; \n\
+i3; i0; int (*)[3]\n\
+i; e; \n\
+i3*(; i0*); int (*(*)(void))[3]\n\
+i)*; i(*; int (**)(void)\n\
+e3; i0; \n\
+iG; i); int (*)(double)\n\
+i7*; i0*; int (**)[7]\n\
+i0; i7; int (*)[7]\n\
+v); v(; void (*)(void)\n\
+i*; e*; \n\
+i); i(; int (*)(void)\n\
+i(*; i)*; int (**)(void)\n\
+i0*; i7*; int (**)[7]\n\
+i7; i0; int (*)[7]\n\
+v(; v); void (*)(void)\n\
+e; i; \n";
 
 fn composite_text(alloc: Global, a: &CType, b: &CType) -> Mem<String> {
     let both = composite(alloc, a, b)?;
@@ -79,38 +78,51 @@ fn composite_text(alloc: Global, a: &CType, b: &CType) -> Mem<String> {
     }
 }
 
+fn is_pair(alloc: Global, row: &str) -> Result<bool, Fail> {
+    let (left, right, wanted) = parts(row);
+    let a = chain(alloc, left)?.unwrap_or(CType::Void);
+    let b = chain(alloc, right)?.unwrap_or(CType::Void);
+    let fits = compatible(&a, &b);
+    if wanted == "-" || wanted.is_empty() {
+        return Ok(fits == wanted.is_empty());
+    }
+    let found = composite_text(alloc, &a, &b)?;
+    Ok(fits && found.as_str() == wanted)
+}
+
 #[test]
 fn pairs(rt: HostRuntime) -> Result<(), Fail> {
     let alloc = rt.alloc();
     either_way();
     with_itself();
-    for (left, right, wanted) in PAIRS {
-        let a = chain(alloc, left)?.unwrap_or(CType::Void);
-        let b = chain(alloc, right)?.unwrap_or(CType::Void);
-        assert!(rt; compatible(&a, &b) == (wanted != "-"), "of {} and {}", left, right);
-        if wanted != "-" && wanted != "" {
-            let found = composite_text(alloc, &a, &b)?;
-            assert!(rt; found.as_str() == wanted, "of {} and {}: {}", left, right, found.as_str());
-        }
+    for row in PAIRS.lines() {
+        let holds = is_pair(alloc, row)?;
+        assert!(rt; holds, "of {row}");
     }
     Ok(())
+}
+
+/// So many pointers to `int`, or None where that is refused.
+fn pointers(alloc: Global, count: u32) -> Mem<Option<CType>> {
+    let mut t = CType::Int;
+    for _ in 0..count {
+        match pointer_to(alloc, &t)? {
+            Some(made) => t = made,
+            None => return Ok(None),
+        }
+    }
+    Ok(Some(t))
 }
 
 #[test]
 fn sizes(rt: HostRuntime) -> Result<(), Fail> {
     let alloc = rt.alloc();
-    let mut t = CType::Int;
-    for _ in 0..1023 {
-        match pointer_to(alloc, &t)? {
-            Some(made) => t = made,
-            None => {
-                assert!(rt; false, "1,024 types are too many");
-            }
-        }
-    }
+    assert!(rt; pointers(alloc, 1_024)?.is_none());
+    let t = pointers(alloc, 1_023)?.unwrap_or(CType::Error);
     assert!(rt; is_small(&t));
-    assert!(rt; pointer_to(alloc, &t)?.is_none());
     let copy = t.duplicate(alloc)?;
     assert!(rt; compatible(&t, &copy));
+    let other = pointers(alloc, 1_022)?.unwrap_or(CType::Error);
+    assert!(rt; !compatible(&t, &other));
     Ok(())
 }

@@ -1,49 +1,49 @@
-use crate::chains::chain;
+use crate::chains::{chain, parts};
 use cl_base::{List, Mem};
 use cl_specifiers::{
-    Declared, Flags, StorageWord, TypeWord, adjusted, base_type, may_stand, storage_of, with_qualifiers,
+    Declared, Flags, StorageWord, TypeWord, adjusted, base_type, may_stand, storage_of,
+    with_qualifiers,
 };
 use cl_types::{CType, print};
 use std::alloc::Global;
 use std::test::Fail;
 
 /// Type specifiers by letters in `vcsilfdSUB`, and their type: each list of 6.7.2p2 in some order, and others.
-const WORDS: [(&str, &str); 34] = [
-    ("v", "void"),
-    ("c", "char"),
-    ("Sc", "signed char"),
-    ("cU", "unsigned char"),
-    ("s", "short"),
-    ("isS", "short"),
-    ("sU", "unsigned short"),
-    ("iUs", "unsigned short"),
-    ("i", "int"),
-    ("S", "int"),
-    ("iS", "int"),
-    ("U", "unsigned int"),
-    ("Ui", "unsigned int"),
-    ("l", "long"),
-    ("lSi", "long"),
-    ("lUi", "unsigned long"),
-    ("lil", "long long"),
-    ("Sll", "long long"),
-    ("liUl", "unsigned long long"),
-    ("f", "float"),
-    ("d", "double"),
-    ("dl", "long double"),
-    ("ld", "long double"),
-    ("B", "_Bool"),
-    ("", "-"),
-    ("lll", "-"),
-    ("ss", "-"),
-    ("SU", "-"),
-    ("UB", "-"),
-    ("lld", "-"),
-    ("fl", "-"),
-    ("ii", "-"),
-    ("ci", "-"),
-    ("vi", "-"),
-];
+const WORDS: &str = "\
+v; void; \n\
+c; char; \n\
+Sc; signed char; \n\
+cU; unsigned char; \n\
+s; short; \n\
+isS; short; \n\
+sU; unsigned short; \n\
+iUs; unsigned short; \n\
+i; int; \n\
+S; int; \n\
+iS; int; \n\
+U; unsigned int; \n\
+Ui; unsigned int; \n\
+l; long; \n\
+lSi; long; \n\
+lUi; unsigned long; \n\
+lil; long long; \n\
+Sll; long long; \n\
+liUl; unsigned long long; \n\
+f; float; \n\
+d; double; \n\
+dl; long double; \n\
+ld; long double; \n\
+B; _Bool; \n\
+; -; \n\
+lll; -; \n\
+ss; -; \n\
+SU; -; \n\
+UB; -; \n\
+lld; -; \n\
+fl; -; \n\
+ii; -; \n\
+ci; -; \n\
+vi; -; \n";
 
 fn word(letter: u8) -> TypeWord {
     match letter {
@@ -75,28 +75,44 @@ fn said(alloc: Global, t: Option<CType>) -> Mem<String> {
     }
 }
 
+fn is_base(alloc: Global, row: &str) -> Result<bool, Fail> {
+    let (letters, wanted, _) = parts(row);
+    let words = words(alloc, letters)?;
+    let found = said(alloc, base_type(alloc, &words, &[])?)?;
+    Ok(found.as_str() == wanted)
+}
+
+/// A typedef name alone, and one beside a word.
+fn is_named(alloc: Global) -> Result<bool, Fail> {
+    let named = [CType::Float];
+    let none = words(alloc, "")?;
+    let alone = said(alloc, base_type(alloc, &none, &named)?)?;
+    let one = words(alloc, "i")?;
+    let beside = said(alloc, base_type(alloc, &one, &named)?)?;
+    Ok(alone.as_str() == "float" && beside.as_str() == "-")
+}
+
+/// Parameters, and `_Atomic` as a qualifier.
+fn is_derived(alloc: Global) -> Result<bool, Fail> {
+    let array = chain(alloc, "i3")?.unwrap_or(CType::Error);
+    let first = said(alloc, adjusted(alloc, &array, 1)?)?;
+    let callee = chain(alloc, "i(")?.unwrap_or(CType::Error);
+    let second = said(alloc, adjusted(alloc, &callee, 0)?)?;
+    let third = said(alloc, with_qualifiers(alloc, &CType::Int, 3, true)?)?;
+    let fourth = said(alloc, with_qualifiers(alloc, &array, 0, true)?)?;
+    let params = first.as_str() == "int *const" && second.as_str() == "int (*)(void)";
+    Ok(params && third.as_str() == "const volatile _Atomic(int)" && fourth.as_str() == "-")
+}
+
 #[test]
 fn types(rt: HostRuntime) -> Result<(), Fail> {
     let alloc = rt.alloc();
-    for (letters, wanted) in WORDS {
-        let found = said(alloc, base_type(alloc, &words(alloc, letters)?, &[])?)?;
-        assert!(rt; found.as_str() == wanted, "of {}: {}", letters, found.as_str());
+    for row in WORDS.lines() {
+        let holds = is_base(alloc, row)?;
+        assert!(rt; holds, "of {row}");
     }
-    let named = [CType::Float];
-    let found = said(alloc, base_type(alloc, &words(alloc, "")?, &named)?)?;
-    assert!(rt; found.as_str() == "float");
-    let found = said(alloc, base_type(alloc, &words(alloc, "i")?, &named)?)?;
-    assert!(rt; found.as_str() == "-");
-    let array = chain(alloc, "i3")?.unwrap_or(CType::Error);
-    let found = said(alloc, adjusted(alloc, &array, 1)?)?;
-    assert!(rt; found.as_str() == "int *const", "{}", found.as_str());
-    let callee = chain(alloc, "i(")?.unwrap_or(CType::Error);
-    let found = said(alloc, adjusted(alloc, &callee, 0)?)?;
-    assert!(rt; found.as_str() == "int (*)(void)", "{}", found.as_str());
-    let found = said(alloc, with_qualifiers(alloc, &CType::Int, 3, true)?)?;
-    assert!(rt; found.as_str() == "const volatile _Atomic(int)", "{}", found.as_str());
-    let found = said(alloc, with_qualifiers(alloc, &array, 0, true)?)?;
-    assert!(rt; found.as_str() == "-", "{}", found.as_str());
+    let holds = is_named(alloc)? && is_derived(alloc)?;
+    assert!(rt; holds);
     Ok(())
 }
 
@@ -124,13 +140,35 @@ fn storage(rt: HostRuntime) -> Result<(), Fail> {
     assert!(rt; storage_of(&[StorageWord::Static, StorageWord::Typedef]).is_none());
     assert!(rt; storage_of(&[StorageWord::ThreadLocal, StorageWord::ThreadLocal]).is_none());
     assert!(rt; may_stand(PLAIN, true, Declared::Object));
-    let local = Flags { thread: true, ..PLAIN };
-    assert!(rt; may_stand(local, true, Declared::Object) && !may_stand(local, false, Declared::Object));
-    let inlined = Flags { inline: true, ..PLAIN };
-    assert!(rt; may_stand(inlined, true, Declared::Function) && !may_stand(inlined, true, Declared::Nothing));
-    let aligned = Flags { alignas: true, ..PLAIN };
-    assert!(rt; may_stand(aligned, false, Declared::Member) && !may_stand(aligned, false, Declared::BitField));
-    let register = Flags { storage: 5, ..PLAIN };
-    assert!(rt; may_stand(register, false, Declared::Parameter) && !may_stand(register, true, Declared::Object));
+    let local = Flags {
+        thread: true,
+        ..PLAIN
+    };
+    assert!(rt;
+        may_stand(local, true, Declared::Object) && !may_stand(local, false, Declared::Object)
+    );
+    let inlined = Flags {
+        inline: true,
+        ..PLAIN
+    };
+    assert!(rt;
+        may_stand(inlined, true, Declared::Function) && !may_stand(inlined, true, Declared::Nothing)
+    );
+    let aligned = Flags {
+        alignas: true,
+        ..PLAIN
+    };
+    assert!(rt;
+        may_stand(aligned, false, Declared::Member)
+            && !may_stand(aligned, false, Declared::BitField)
+    );
+    let register = Flags {
+        storage: 5,
+        ..PLAIN
+    };
+    assert!(rt;
+        may_stand(register, false, Declared::Parameter)
+            && !may_stand(register, true, Declared::Object)
+    );
     Ok(())
 }

@@ -42,7 +42,13 @@ pub fn promoted(t: &CType) -> bool
     ensures { result ≡ promoted t.now }
 {
     match t {
-        CType::Bool | CType::Char | CType::SChar | CType::UChar | CType::Short | CType::UShort | CType::Float => false,
+        CType::Bool
+        | CType::Char
+        | CType::SChar
+        | CType::UChar
+        | CType::Short
+        | CType::UShort
+        | CType::Float => false,
         CType::Qualified(_, within) => promoted(within.get()),
         _ => true,
     }
@@ -113,15 +119,27 @@ pub fn compatible(a: &CType, b: &CType) -> bool
             other => is_error(other),
         },
         CType::Array(t, n) => match b {
-            CType::Array(u, m) => if agree(*n, *m) { compatible(t.get(), u.get()) } else { false },
+            CType::Array(u, m) => if agree(*n, *m) {
+                compatible(t.get(), u.get())
+            } else {
+                false
+            },
             other => is_error(other),
         },
         CType::Function(t, ps) => match b {
-            CType::Function(u, qs) => if compatible(t.get(), u.get()) { same_params(ps, qs) } else { false },
+            CType::Function(u, qs) => if compatible(t.get(), u.get()) {
+                same_params(ps, qs)
+            } else {
+                false
+            },
             other => is_error(other),
         },
         CType::Qualified(q, t) => match b {
-            CType::Qualified(r, u) => if *q == *r { compatible(t.get(), u.get()) } else { false },
+            CType::Qualified(r, u) => if *q == *r {
+                compatible(t.get(), u.get())
+            } else {
+                false
+            },
             other => is_error(other),
         },
         CType::Atomic(t) => match b {
@@ -150,11 +168,23 @@ fn same_params(a: &Params, b: &Params) -> bool
 {
     match a {
         Params::Proto(ps, more) => match b {
-            Params::Proto(qs, also) => if *more == *also { same_each(ps.get().as_slice(), qs.get().as_slice()) } else { false },
-            Params::NoProto => if *more { false } else { all_compared(ps.get().as_slice()) },
+            Params::Proto(qs, also) => if *more == *also {
+                same_each(ps.get().as_slice(), qs.get().as_slice())
+            } else {
+                false
+            },
+            Params::NoProto => if *more {
+                false
+            } else {
+                all_compared(ps.get().as_slice())
+            },
         },
         Params::NoProto => match b {
-            Params::Proto(qs, more) => if *more { false } else { all_promoted(qs.get().as_slice()) },
+            Params::Proto(qs, more) => if *more {
+                false
+            } else {
+                all_promoted(qs.get().as_slice())
+            },
             Params::NoProto => true,
         },
     }

@@ -35,7 +35,10 @@ impl Duplicate for CType {
                 let name = duplicate_name(alloc, name)?;
                 Ok(CType::Tag(*number, *word, name))
             }
-            CType::Qualified(qualifiers, within) => Ok(CType::Qualified(*qualifiers, within.share()?)),
+            CType::Qualified(qualifiers, within) => Ok(CType::Qualified(
+                *qualifiers,
+                within.share()?,
+            )),
             CType::Atomic(within) => Ok(CType::Atomic(within.share()?)),
             CType::Error => Ok(CType::Error),
         }

@@ -145,7 +145,12 @@ fn star(alloc: Global, qualifiers: u8, declarator: &[u8]) -> Mem<List<u8>>
     Ok(text)
 }
 
-fn pointer_declarator(alloc: Global, wraps: bool, qualifiers: u8, declarator: &[u8]) -> Mem<List<u8>>
+fn pointer_declarator(
+    alloc: Global,
+    wraps: bool,
+    qualifiers: u8,
+    declarator: &[u8],
+) -> Mem<List<u8>>
     ensures { IfOk result (λ text. text ≡ pointer_declarator wraps qualifiers declarator.now) }
 {
     let star = star(alloc, qualifiers, declarator)?;
@@ -257,7 +262,12 @@ fn spell(alloc: Global, t: &CType, qualifiers: u8, declarator: &[u8]) -> Mem<Lis
 {
     match t {
         CType::Pointer(within) => {
-            let declarator = pointer_declarator(alloc, wraps(within.get()), qualifiers, declarator)?;
+            let declarator = pointer_declarator(
+                alloc,
+                wraps(within.get()),
+                qualifiers,
+                declarator,
+            )?;
             let text = spell(alloc, within.get(), 0, declarator.as_slice())?;
             Ok(text)
         }
