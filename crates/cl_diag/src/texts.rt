@@ -1,14 +1,14 @@
 //! What is said of each fault.
 
 ghost use Rattle.std.specs.Prelude.{◌≡◌, ◌++◌, [], map, slice_get, unwrap_or, codes, string_bytes, IfOk, OnOk};
-ghost use Rattle.cl_diag.specs.Texts.{name_text, text, wording};
+ghost use Rattle.cl_diag.specs.Texts.{name_text, speaks_of_a_name, tail, text, wording};
 
 use cl_base::{Diag, Mem, Name};
 use cl_lossy::shown;
 use std::alloc::Global;
 
-/// The texts of the faults, from 1 on. That of 16 goes on with a name.
-const TEXTS: [&str; 24] = [
+/// The texts of the faults, from 1 on. Where one ends in an open quote, a name goes on.
+const TEXTS: [&str; 49] = [
     "",
     "unterminated comment",
     "missing closing quote",
@@ -33,6 +33,31 @@ const TEXTS: [&str; 24] = [
     "pasting gives no token",
     "#error directive",
     "invalid #line",
+    "stray token",
+    "integer constant too large",
+    "invalid escape sequence",
+    "mixed string prefixes",
+    "syntax error",
+    "undeclared identifier '",
+    "conflicting declaration of '",
+    "redefinition of '",
+    "'",
+    "incomplete type",
+    "invalid type specifiers",
+    "invalid type",
+    "invalid specifier",
+    "invalid bit-field",
+    "invalid array length",
+    "constant expression needed",
+    "no member '",
+    "invalid operands",
+    "not assignable",
+    "incompatible types",
+    "invalid call",
+    "invalid label '",
+    "misplaced statement",
+    "static assertion failed",
+    "invalid initializer",
 ];
 
 /// What is said of a fault, with the name that it speaks of. Each byte of the name that is part of no UTF-8 character stands
@@ -42,11 +67,38 @@ pub fn text_of(alloc: Global, diag: &Diag) -> Mem<String>
 {
     let mut said = String::new(alloc);
     said.push_str(wording(diag.number))?;
-    if diag.number == 16 {
+    if speaks_of_a_name(diag.number) {
         push_name(alloc, &mut said, &diag.name)?;
-        said.push_str("' redefined")?;
+        said.push_str(tail(diag.number))?;
     }
     Ok(said)
+}
+
+/// Whether a fault's text speaks of a name.
+fn speaks_of_a_name(number: u8) -> bool
+    ensures { result ≡ speaks_of_a_name number }
+{
+    match number {
+        16 => true,
+        29 => true,
+        30 => true,
+        31 => true,
+        32 => true,
+        40 => true,
+        45 => true,
+        _ => false,
+    }
+}
+
+/// What stands behind the name.
+fn tail(number: u8) -> &'static str
+    ensures { result.now ≡ tail number }
+{
+    match number {
+        16 => "' redefined",
+        32 => "' is another kind of tag",
+        _ => "'",
+    }
 }
 
 fn push_name(alloc: Global, said: &mut String, name: &Option<Name>) -> Mem<()>

@@ -1,0 +1,5 @@
+pub mod Operands
+pub mod Operators
+pub mod Unary
+pub mod Usual
+pub mod code

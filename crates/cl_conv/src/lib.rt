@@ -1,0 +1,18 @@
+//! Conversions, and what types the operators take and give.
+#![tactic(auto)]
+
+mod choices;
+mod conversions;
+mod laws;
+mod operands;
+mod operators;
+mod single;
+
+pub use choices::{assignable, call, conditional, takes_count};
+pub use conversions::{arithmetic, of_basic, promote, usual};
+pub use laws::{promotions, usual_conversions};
+pub use operands::{
+    Operand, is_arithmetic, is_integer, is_pointer, is_scalar, stripped, target, value_type,
+};
+pub use operators::{BinaryOp, Outcome, assigns, binary, designated, is_place, value};
+pub use single::{UnaryOp, cast, is_pointer_type, pointed, size_of, unary};

@@ -1,0 +1,4 @@
+pub mod CompatibleLemmas
+pub mod Induction
+pub mod OwnLemmas
+pub mod PromotedLemmas

@@ -1,0 +1,23 @@
+//! The types of C, and the records of a translation unit.
+#![tactic(auto)]
+
+mod comparing;
+mod composing;
+mod duplicates;
+mod laws;
+mod printing;
+mod qualifying;
+mod shared;
+mod sizes;
+mod types;
+mod unit;
+
+pub use comparing::{compatible, is_enum, is_error, promoted, unqualified};
+pub use composing::composite;
+pub use laws::{either_way, with_itself};
+pub use printing::print;
+pub use qualifying::{qualified, qualifiers_of};
+pub use shared::Shared;
+pub use sizes::{MOST_NODES, is_small, room_after};
+pub use types::{Basic, CType, DeclNo, Length, Params, TagWord, basic_of};
+pub use unit::{Decl, DeclKind, Dep, Entity, Linkage, Member, ScopeKind, Space, Unit, Use, Used};
