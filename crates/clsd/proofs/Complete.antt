@@ -4,6 +4,8 @@ use Rattle.std.specs.Prelude.{Option, if◌then◌else◌}
 use Rattle.cl_frames.specs.Sessions.{SplitsInto, edge, bad, long, after_last}
 use Rattle.cl_frames.specs.Sessions as frames
 use Rattle.cl_frames.proofs.SessionLemmas.{one_split}
+use Rattle.cl_base.specs.Reads.{Reads}
+use Rattle.cl_base.specs.declared.config.Settings.{Settings}
 use Rattle.cl_history.specs.declared.entry.Entry.{Entry}
 use Rattle.clsd.specs.Sessions.{Close, at_exit, at_edge, at_bad, at_long, at_source, at_sink, at_memory, Session, StatusIs, LeavesUnread, is_last, RanToTheEnd}
 
@@ -33,7 +35,7 @@ by_close at_source bytes taken rest bodies ends shut_down code offset all behind
 by_close at_sink bytes taken rest bodies ends shut_down code offset all behind parts framed status unread splits source sink = absurd (sink status.0)
 by_close at_memory bytes taken rest bodies ends shut_down code offset all behind parts framed status unread splits source sink = inr (inr status.0)
 
-pub completes : (bytes : List ℕ) (left held : Option (List ℕ)) (journal : List Entry) (code offset : ℕ) (all : List (List ℕ)) (behind : List ℕ)
-    → Session bytes left held journal code offset → SplitsInto is_last 0 bytes all (after_last behind) → (code ≡ 4 → ⊥) → (code ≡ 5 → ⊥) → RanToTheEnd code
-completes bytes left held journal code offset all behind s splits source sink =
+pub completes : (config : Settings) (bytes : List ℕ) (reads : Reads) (left held : Option (List ℕ)) (journal : List Entry) (code offset : ℕ) (all : List (List ℕ)) (behind : List ℕ)
+    → Session config bytes reads left held journal code offset → SplitsInto is_last 0 bytes all (after_last behind) → (code ≡ 4 → ⊥) → (code ≡ 5 → ⊥) → RanToTheEnd code
+completes config bytes reads left held journal code offset all behind s splits source sink =
     by_close s.close bytes s.taken s.rest s.bodies s.ends _ code offset all behind s.parts s.messages.framed s.status s.unread splits source sink

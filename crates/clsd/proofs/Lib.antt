@@ -1,4 +1,5 @@
 pub mod Frames
+pub mod Reading
 pub mod Served
 pub mod Going
 pub mod InTime

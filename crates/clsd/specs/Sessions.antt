@@ -1,8 +1,10 @@
--- What a whole session is: what it took, what it answered, and how it ended.
-use Rattle.std.specs.Prelude.{◌≡◌, ◌⊎◌, ℕ, ◌^◌, ◌≤◌, List, [], ◌∷◌, ◌++◌, length, map, reverse, Bool, true, false, if◌then◌else◌, Option, Some, IsTrue}
+-- What a whole session is: what it took, what it read, what it answered, and how it ended.
+use Rattle.std.specs.Prelude.{◌≡◌, ◌⊎◌, ℕ, ◌^◌, ◌≤◌, List, [], ◌∷◌, ◌++◌, length, map, reverse, Bool, true, false, if◌then◌else◌, Option, Some, option_map, IsTrue}
 use Rattle.cl_frames.specs.Sessions.{SplitsInto, edge, bad, long, after_last}
 use Rattle.cl_frames.specs.Sessions as frames
-use Rattle.cl_base.specs.Faults.{Rose}
+use Rattle.cl_base.specs.Faults.{HasCause, Rose}
+use Rattle.cl_base.specs.Reads.{Reads}
+use Rattle.cl_base.specs.declared.headers.Read.TheVariants.{Failed}
 use Rattle.cl_rpc.specs.declared.call.Parsed.{Parsed}
 use Rattle.cl_rpc.specs.declared.out.How.{How}
 use Rattle.cl_rpc.specs.declared.out.How.TheVariants as how
@@ -12,7 +14,7 @@ use Rattle.cl_query.specs.AnswerOf.{AnswerOf, NeedsOf}
 use Rattle.cl_base.specs.declared.config.Settings.{Settings}
 use Rattle.cl_history.specs.declared.entry.Entry.{Entry}
 use Rattle.cl_history.specs.declared.entry.Entry.TheVariants.{In, Load, Reply, Notify}
-use Rattle.cl_history.specs.Given.{Given, received}
+use Rattle.cl_history.specs.Given.{Given, received, loaded}
 use Rattle.cl_history.specs.History.{is_shut_down, pending}
 use Rattle.cl_history.specs.Legal.{IsLegal, IsSettled}
 use Rattle.cl_history.specs.Written.{Writes}
@@ -30,9 +32,24 @@ messages_in bodies = map message_in bodies
 abbrev pub no_settings : Settings
 no_settings = record { includes = []; defines = [] }
 
--- what a session of these bodies is given: the program's words set nothing, and it reads no header
-abbrev pub given_of : List (List ℕ) → Given
-given_of bodies = record { config = no_settings; messages = messages_in bodies; reads = [] }
+-- what a session of these bodies is given, which made these reads of headers
+abbrev pub given_of : Settings → List (List ℕ) → Reads → Given
+given_of config bodies reads = record { config = config; messages = messages_in bodies; reads = reads }
+
+-- one of these reads failed
+abbrev pub HasFailed : Reads → Type 0
+HasFailed [] = ⊥
+HasFailed (read ∷ reads) = (read.1 ≡ Failed) ⊎ HasFailed reads
+
+-- these reads more, where the reads are told
+abbrev pub add_reads : Option Reads → Reads → Option Reads
+add_reads told reads = option_map (λ (all : Reads). all ++ reads) told
+
+-- these reads were made: a header source that tells its reads tells them after those before, and its count of faults rose where one of
+-- them failed
+pub record MakesReads (told_before told_now : Option Reads) (faults_before faults_now : ℕ) (reads : Reads) : Type 0 where
+  pub told : told_now ≡ add_reads told_before reads
+  pub cause : HasCause faults_before faults_now (HasFailed reads)
 
 -- how a session ended: after an `exit`; at the end of the input, at a frame's edge; at bytes that are no frame; with
 -- more bytes than a session may have; by a fault of the source; by one of the sink; for want of memory
@@ -81,6 +98,11 @@ pub record Takes (close : Close) (taken : List ℕ) (bodies : List (List ℕ)) (
   pub first : received past ≤ length bodies
   pub all : IsTrue (is_whole close) → received past ≡ length bodies
 
+-- the reads of the journal are the first ones of those that were made, and all of them where the session was whole
+pub record Loads (close : Close) (reads : Reads) (past : List Entry) : Type 0 where
+  pub first : loaded past ≤ length reads
+  pub all : IsTrue (is_whole close) → loaded past ≡ length reads
+
 -- the sink holds what the journal writes, or a front of it where the session was cut off
 pub record Writing (close : Close) (given : Given) (past : List Entry) (held : Option (List ℕ)) : Type 0 where
   pub now : List ℕ
@@ -104,9 +126,9 @@ AreInTime (Load n ∷ past) = AreInTime past
 AreInTime (Reply message mark how ∷ past) = IsInTime how × AreInTime past
 AreInTime (Notify message mark ∷ past) = AreInTime past
 
--- what a session owes whatever server ran it, over these bytes of its source, which left `left` of them, and wrote to a sink that was empty and now holds
--- `held`: its journal, its status `code`, and the offset that it tells
-pub record Session (bytes : List ℕ) (left held : Option (List ℕ)) (journal : List Entry) (code offset : ℕ) : Type 0 where
+-- what a session owes whatever server ran it, with this config, over these bytes of its source, which left `left` of them, and these reads that it made; its
+-- sink was empty and now holds `held`. It owes this of its journal, its status `code`, and the offset that it tells
+pub record Session (config : Settings) (bytes : List ℕ) (reads : Reads) (left held : Option (List ℕ)) (journal : List Entry) (code offset : ℕ) : Type 0 where
   pub taken : List ℕ
   pub rest : List ℕ
   pub parts : bytes ≡ taken ++ rest
@@ -115,16 +137,17 @@ pub record Session (bytes : List ℕ) (left held : Option (List ℕ)) (journal :
   pub ends : frames.Ending
   pub close : Close
   pub messages : Takes close taken bodies ends (reverse journal)
-  pub legal : IsLegal NeedsOf (given_of bodies) (reverse journal)
-  pub written : Writing close (given_of bodies) (reverse journal) held
-  pub status : StatusIs close (is_shut_down (given_of bodies) (reverse journal)) ends code offset
-  pub whole : IsTrue (is_whole close) → pending (given_of bodies) (reverse journal) ≡ []
+  pub loads : Loads close reads (reverse journal)
+  pub legal : IsLegal NeedsOf (given_of config bodies reads) (reverse journal)
+  pub written : Writing close (given_of config bodies reads) (reverse journal) held
+  pub status : StatusIs close (is_shut_down (given_of config bodies reads) (reverse journal)) ends code offset
+  pub whole : IsTrue (is_whole close) → pending (given_of config bodies reads) (reverse journal) ≡ []
   pub unread : LeavesUnread close bytes taken rest bodies offset
 
 -- what only a server without workers owes besides: no request is pending where a message is received, and none is ended early
-pub record SerialSession (bytes : List ℕ) (left held : Option (List ℕ)) (journal : List Entry) (code offset : ℕ) : Type 0 where
-  pub session : Session bytes left held journal code offset
-  pub settled : IsSettled (given_of session.bodies) (reverse journal)
+pub record SerialSession (config : Settings) (bytes : List ℕ) (reads : Reads) (left held : Option (List ℕ)) (journal : List Entry) (code offset : ℕ) : Type 0 where
+  pub session : Session config bytes reads left held journal code offset
+  pub settled : IsSettled (given_of config session.bodies reads) (reverse journal)
   pub in_time : AreInTime (reverse journal)
 
 -- a count of faults that didn't rise

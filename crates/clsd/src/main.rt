@@ -10,6 +10,7 @@ mod session;
 #[cfg(test)]
 mod tests;
 mod turn;
+mod work;
 
 use crate::command::{Command, command_of};
 use crate::outcome::{NO_MEMORY, WRONG_WORDS};

@@ -1,9 +1,10 @@
-ghost use Rattle.std.specs.Prelude.{◌≡◌, ◌≢◌, ℕ, List, [], Some, None, IfOk, map, string_bytes};
+ghost use Rattle.std.specs.Prelude.{◌≡◌, ◌≢◌, ◌≤◌, ℕ, List, [], Some, None, IfOk, map, string_bytes};
 ghost use Rattle.cl_base.specs.Faults.{HasCause};
+ghost use Rattle.cl_base.specs.Reads.{Reads};
 ghost use Rattle.cl_frames.specs.Sessions.{SplitsInto, after_last};
 ghost use Rattle.cl_history.specs.Given.{Given};
 ghost use Rattle.cl_core.specs.Standing.{IsIdle, StandsFor, journal_of};
-ghost use Rattle.clsd.specs.Sessions.{SerialSession, RanToTheEnd, StoodStill, is_last, no_settings};
+ghost use Rattle.clsd.specs.Sessions.{MakesReads, SerialSession, RanToTheEnd, StoodStill, is_last, no_settings};
 ghost use Rattle.clsd.specs.Words.{command_in};
 
 use crate::command::{Command, command_of};
@@ -15,28 +16,32 @@ use cl_frames::{Frames, Sink, Source};
 use cl_history::Entry;
 use std::alloc::Global;
 
-/// Serves one session: reads messages from the source and writes replies to the sink, until the session ends. Each job
-/// is done before the next message is taken. It waits for nobody. With words that are no command's it touches nothing.
+/// Serves one session: reads messages from the source and writes replies to the sink, until the session ends. Each job is done
+/// before the next message is taken, with a read of each header that it needs and that isn't known. It waits for nobody. With
+/// words that are no command's it touches nothing.
 pub fn serve_serial<S: Source, K: Sink, H: HeaderSource>(
     alloc: Global,
     words: &[String],
     source: &mut S,
     sink: &mut K,
-    _headers: &mut H,
+    headers: &mut H,
 ) -> Outcome
-    ensures session { (bytes : List ℕ) → command_in (map string_bytes words.now) ≡ Command.Serial → S.left source.old ≡ Some bytes → K.held sink.old ≡ Some []
-        → SerialSession bytes (S.left source.new) (K.held sink.new) result.journal result.status result.at }
-    ensures complete { (bytes : List ℕ) (bodies : List (List ℕ)) (rest : List ℕ) → command_in (map string_bytes words.now) ≡ Command.Serial → S.left source.old ≡ Some bytes → K.held sink.old ≡ Some []
+    ensures session { (bytes : List ℕ) → command_in (map string_bytes words.now) ≡ Command.Serial
+        → S.left source.old ≡ Some bytes → K.held sink.old ≡ Some []
+        → (reads : Reads) × MakesReads (H.reads headers.old) (H.reads headers.new) (H.faults headers.old) (H.faults headers.new) reads
+        × SerialSession no_settings bytes reads (S.left source.new) (K.held sink.new) result.journal result.status result.at }
+    ensures complete { (bytes : List ℕ) (bodies : List (List ℕ)) (rest : List ℕ) → command_in (map string_bytes words.now) ≡ Command.Serial
+        → S.left source.old ≡ Some bytes → K.held sink.old ≡ Some []
         → SplitsInto is_last 0 bytes bodies (after_last rest) → StoodStill (S.faults source.old) (S.faults source.new) → StoodStill (K.faults sink.old) (K.faults sink.new) → RanToTheEnd result.status }
     ensures served { command_in (map string_bytes words.now) ≡ Command.Serial → result.status ≢ 6 }
     ensures wrong_words { command_in (map string_bytes words.now) ≢ Command.Serial
-        → (result.status ≡ 6) × (result.at ≡ 0) × (result.journal ≡ []) × (source.new ≡ source.old) × (sink.new ≡ sink.old) }
+        → (result.status ≡ 6) × (result.at ≡ 0) × (result.journal ≡ []) × (source.new ≡ source.old) × (sink.new ≡ sink.old) × (headers.new ≡ headers.old) }
     ensures source { HasCause (S.faults source.old) (S.faults source.new) (result.status ≡ 4) }
     ensures sink { HasCause (K.faults sink.old) (K.faults sink.new) (result.status ≡ 5) }
-    ensures headers { (result.links ≡ 0) × (_headers.new ≡ _headers.old) }
+    ensures headers { (H.faults headers.old ≤ H.faults headers.new) × (result.links ≡ 0) }
 {
     match command_of(words) {
-        Command::Serial => serve(alloc, source, sink),
+        Command::Serial => serve(alloc, source, sink, headers),
         Command::Bad(_) => outcome(
             Ended {
                 status: WRONG_WORDS,
@@ -48,21 +53,27 @@ pub fn serve_serial<S: Source, K: Sink, H: HeaderSource>(
 }
 
 /// Serves one session without workers.
-fn serve<S: Source, K: Sink>(alloc: Global, source: &mut S, sink: &mut K) -> Outcome
+fn serve<S: Source, K: Sink, H: HeaderSource>(
+    alloc: Global,
+    source: &mut S,
+    sink: &mut K,
+    headers: &mut H,
+) -> Outcome
     ensures session { (bytes : List ℕ) → S.left source.old ≡ Some bytes → K.held sink.old ≡ Some []
-        → SerialSession bytes (S.left source.new) (K.held sink.new) result.journal result.status result.at }
+        → (reads : Reads) × MakesReads (H.reads headers.old) (H.reads headers.new) (H.faults headers.old) (H.faults headers.new) reads
+        × SerialSession no_settings bytes reads (S.left source.new) (K.held sink.new) result.journal result.status result.at }
     ensures complete { (bytes : List ℕ) (bodies : List (List ℕ)) (rest : List ℕ) → S.left source.old ≡ Some bytes → K.held sink.old ≡ Some []
         → SplitsInto is_last 0 bytes bodies (after_last rest) → StoodStill (S.faults source.old) (S.faults source.new) → StoodStill (K.faults sink.old) (K.faults sink.new) → RanToTheEnd result.status }
     ensures served { result.status ≢ 6 }
     ensures source { HasCause (S.faults source.old) (S.faults source.new) (result.status ≡ 4) }
     ensures sink { HasCause (K.faults sink.old) (K.faults sink.new) (result.status ≡ 5) }
-    ensures links { result.links ≡ 0 }
+    ensures headers { (H.faults headers.old ≤ H.faults headers.new) × (result.links ≡ 0) }
 {
     match begin(alloc) {
         Ok((frames, core)) => {
             let mut frames = frames;
             let mut core = core;
-            let ended = run(alloc, &mut frames, &mut core, source, sink);
+            let ended = run(alloc, &mut frames, &mut core, source, sink, headers);
             outcome(ended, core.into_journal())
         }
         Err(Memory) => outcome(

@@ -1,15 +1,15 @@
 ghost use Rattle.std.specs.Prelude.{◌≡◌, ◌++◌, [], ◌∷◌, ℕ, List, Option, Some, None, Ok, IfOk, IsTrue, false, slice_get, take};
 ghost use Rattle.std.specs.Io.KnownBytes.{append_known};
 ghost use Rattle.cl_base.specs.Faults.{HasCause};
-ghost use Rattle.cl_history.specs.Given.{Given};
-ghost use Rattle.cl_core.specs.Standing.{IsIdle, WorksOn, finish_of, frames_of, jobs_of, messages_taken};
+ghost use Rattle.cl_core.specs.Standing.{IsIdle, WorksOn, finish_of, frames_of, jobs_of, messages_taken, reads_taken};
 ghost use Rattle.clsd.specs.First.{first_of};
-ghost use Rattle.clsd.specs.Serving.{frame_of, turn_of, EndsWork, IsEndOf, Keeps, LeavesIdle, Turns, Works};
+ghost use Rattle.clsd.specs.Serving.{frame_of, turn_of, EndsWork, Keeps, LeavesIdle, Making, Turns, Works};
 
-use cl_base::{Duplicate, Mem, Memory};
+use crate::work::work;
+use cl_base::{Duplicate, HeaderSource, Mem, Memory};
 use cl_core::{Core, Effect, Event};
 use cl_frames::{Sink, Written, write_frame};
-use cl_query::{Job, JobAnswer, run_job};
+use cl_query::Job;
 use cl_rpc::{Parsed, reply_text};
 use std::alloc::Global;
 
@@ -24,15 +24,17 @@ pub enum Turn {
     SinkFailed,
 }
 
-/// Takes a message, does the job that it starts, and writes the replies.
-pub fn take_message<K: Sink>(
+/// Takes a message, does the job that it starts, with the reads of the headers that it needs, and writes the replies.
+pub fn take_message<K: Sink, H: HeaderSource>(
     alloc: Global,
     core: &mut Core,
     sink: &mut K,
+    headers: &mut H,
     parsed: Parsed,
 ) -> Mem<Turn>
-    ensures turn { (given : Given) (held : List ℕ) → slice_get given.messages (messages_taken core.old) ≡ Some parsed
-        → Keeps given core.old held → K.held sink.old ≡ Some held → Turns given core.old parsed core.new (K.held sink.new) result }
+    ensures turn { Making (H.reads headers.old) (H.reads headers.new) (H.faults headers.old) (H.faults headers.new) (reads_taken core.old)
+        (λ given made. (held : List ℕ) → slice_get given.messages (messages_taken core.old) ≡ Some parsed
+        → Keeps given core.old held → K.held sink.old ≡ Some held → Turns given core.old parsed core.new made (K.held sink.new) result) }
     ensures idle { IsIdle core.old → LeavesIdle core.new result }
     ensures cause { HasCause (K.faults sink.old) (K.faults sink.new) (result ≡ Ok Turn.SinkFailed) }
 {
@@ -46,7 +48,7 @@ pub fn take_message<K: Sink>(
         Err(Memory) => return Err(Memory),
     }
     match job_of(alloc, effects.as_slice()) {
-        Ok(Some(job)) => do_job(alloc, core, sink, job),
+        Ok(Some(job)) => do_job(alloc, core, sink, headers, job),
         Ok(None) => Ok(turn_of(finish_of(effects.as_slice()))),
         Err(Memory) => Err(Memory),
     }
@@ -63,13 +65,23 @@ fn turn_of(status: Option<u8>) -> Turn
 }
 
 /// Does a job, and writes its reply.
-fn do_job<K: Sink>(alloc: Global, core: &mut Core, sink: &mut K, job: Job) -> Mem<Turn>
-    ensures turn { (given : Given) (held : List ℕ) → Works given core.old job held → K.held sink.old ≡ Some held
-        → EndsWork given core.old core.new (K.held sink.new) result }
+fn do_job<K: Sink, H: HeaderSource>(
+    alloc: Global,
+    core: &mut Core,
+    sink: &mut K,
+    headers: &mut H,
+    job: Job,
+) -> Mem<Turn>
+    ensures turn { Making (H.reads headers.old) (H.reads headers.new) (H.faults headers.old) (H.faults headers.new) (reads_taken core.old)
+        (λ given made. (held : List ℕ) → Works given core.old job held → K.held sink.old ≡ Some held
+        → EndsWork given core.old core.new made (K.held sink.new) result) }
     ensures idle { WorksOn core.old job → LeavesIdle core.new result }
     ensures cause { HasCause (K.faults sink.old) (K.faults sink.new) (result ≡ Ok Turn.SinkFailed) }
 {
-    let event = work(alloc, job);
+    let event = match work(alloc, core, headers, job) {
+        Ok(event) => event,
+        Err(Memory) => return Err(Memory),
+    };
     let effects = match core.step(alloc, event) {
         Ok(effects) => effects,
         Err(Memory) => return Err(Memory),
@@ -78,17 +90,6 @@ fn do_job<K: Sink>(alloc: Global, core: &mut Core, sink: &mut K, job: Job) -> Me
         Ok(true) => Ok(Turn::GoesOn),
         Ok(false) => Ok(Turn::SinkFailed),
         Err(Memory) => Err(Memory),
-    }
-}
-
-/// The event of a job's end.
-fn work(alloc: Global, job: Job) -> Event
-    ensures { IsEndOf job result }
-{
-    match run_job(alloc, job) {
-        JobAnswer::Done(done) => Event::Done(done),
-        JobAnswer::Need(need) => Event::NoMemory(need.job),
-        JobAnswer::Memory(job) => Event::NoMemory(job),
     }
 }
 
@@ -127,7 +128,7 @@ fn write_reply<K: Sink>(alloc: Global, sink: &mut K, effect: &Effect) -> Mem<boo
 }
 
 /// The first job that the effects start.
-fn job_of(alloc: Global, effects: &[Effect]) -> Mem<Option<Job>>
+pub fn job_of(alloc: Global, effects: &[Effect]) -> Mem<Option<Job>>
     ensures { IfOk result (λ job. job ≡ first_of (jobs_of effects.now)) }
 {
     for effect in effects {
