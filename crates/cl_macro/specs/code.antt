@@ -1,2 +1,3 @@
 pub mod Giving
 pub mod Gaining
+pub mod Flat
