@@ -297,7 +297,11 @@ fn brace_at(tokens: &[PpToken], at: usize) -> bool
 fn past_group(partner: usize, end: u32) -> u32
     ensures { result ≡ b.past_group partner end }
 {
-    if partner < end as usize { partner as u32 + 1 } else { end }
+    if partner < end as usize {
+        partner as u32 + 1
+    } else {
+        end
+    }
 }
 
 /// The end of the bad item that begins at `from`, before `end`: past the first `;` or the first brace group at its depth,
