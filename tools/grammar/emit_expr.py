@@ -20,15 +20,206 @@ def ranges(lists):
     for l in lists: out.append((at, at + len(l))); at += len(l)
     return out
 er = ranges([q['edges'] for q in P])
-kr = ranges([K[g] for g in GOALS]); orr = ranges([openers[g] for g in GOALS]); sr = ranges([suffixes[g] for g in GOALS]); fr = ranges([order(F[g]) for g in GOALS])
+kr = ranges([K[g] for g in GOALS]); orr = ranges([openers[g] for g in GOALS]); sr = ranges([suffixes[g] for g in GOALS]); SETS_OF = list(dict.fromkeys(tuple(order(F[g])) for g in GOALS)); sr_ = ranges(SETS_OF); fr = [sr_[SETS_OF.index(tuple(order(F[g])))] for g in GOALS]
 def chunked(name, ty, items, size, one_line=True):
     return f'static {name}: [{ty}; {len(items)}] = [\n' + (wrap(items) if one_line else ''.join(f'    {x},\n' for x in items)) + '];\n\n'
-o = '''//! Where the parser goes: places in the productions, as numbers of rows. Written by tools/grammar/emit_expr.py.
+def cterm(t): return f'Terminal::{t}' if t in SETS else f'is!({t})'
+def csym(s): return f'node!({s[1]})' if s[0] == 'N' else (f'token!({cterm(s[1])})' if s[2] == 'Stay' else f'act!({cterm(s[1])}, {s[2]})')
+def cedge(x):
+    a, s, n = x
+    return f'edge!({csym(s)}, {n})' if a is None else f'after!({a[0]}, {a[1]}, {csym(s)}, {n})'
+q = '''//! The edges of the places, one place after the other. Written by tools/grammar/emit_expr.py.
 
 ghost use Rattle.std.specs.Prelude.{◌≡◌};
-ghost use Rattle.cl_expr.specs.Table as t;
+ghost use Rattle.cl_expr.specs.code.Table as t;
 
-use cl_tree::{Act, Class, Nonterminal, Rule, Separator, Symbol, Terminal};
+use crate::table::Edge;
+use cl_tree::{Act, Class, Nonterminal, Separator, Symbol, Terminal};
+
+macro_rules! is {
+    ($class:ident) => {
+        Terminal::Is(Class::$class)
+    };
+}
+
+macro_rules! token {
+    ($terminal:expr) => {
+        Symbol::Token($terminal, Act::Stay)
+    };
+}
+
+macro_rules! act {
+    ($terminal:expr, $act:ident) => {
+        Symbol::Token($terminal, Act::$act)
+    };
+}
+
+macro_rules! node {
+    ($goal:ident) => {
+        Symbol::Node(Nonterminal::$goal)
+    };
+}
+
+macro_rules! edge {
+    ($symbol:expr, $next:expr) => {
+        Edge {
+            before: None,
+            symbol: $symbol,
+            next: $next,
+        }
+    };
+}
+
+macro_rules! after {
+    ($class:ident, $act:ident, $symbol:expr, $next:expr) => {
+        Edge {
+            before: Some(Separator {
+                class: Class::$class,
+                act: Act::$act,
+            }),
+            symbol: $symbol,
+            next: $next,
+        }
+    };
+}
+
+'''
+def fn(f, st, ty, doc): return f"/// {doc}.\npub fn {f}() -> &'static [{ty}]\n    ensures {{ result.now ≡ t.{f} }}\n{{\n    &{st}\n}}\n"
+q += chunked('EDGES', 'Edge', [cedge(x) for x in flat_edges], 0, False) + fn('all_edges', 'EDGES', 'Edge', 'The edges of all places, one place after the other')
+w('src/edge_rows.rt', q)
+q = '''//! The places, by their numbers. Written by tools/grammar/emit_expr.py.
+
+ghost use Rattle.std.specs.Prelude.{◌≡◌};
+ghost use Rattle.cl_expr.specs.code.Table as t;
+
+use crate::table::{Head, Label, Row, Ways};
+use cl_tree::{Nonterminal, Rule, Terminal};
+
+macro_rules! row {
+    ($first:expr, $last:expr, $label:expr, $bar:expr, $corner:expr, $turning:expr, $named:expr) => {
+        Row {
+            first: $first,
+            last: $last,
+            label: $label,
+            bar: $bar,
+            corner: $corner,
+            turning: $turning,
+            named: $named,
+        }
+    };
+}
+
+macro_rules! label {
+    ($rule:ident, $choice:expr) => {
+        Some(Label {
+            rule: Rule::$rule,
+            choice: $choice,
+        })
+    };
+}
+
+// a place in the midst of a production: its edges from one up to another
+macro_rules! inner {
+    ($first:expr, $last:expr) => {
+        row!($first, $last, None, None, None, None, false)
+    };
+}
+
+// a place where a node may end
+macro_rules! ending {
+    ($first:expr, $last:expr, $rule:ident, $choice:expr) => {
+        row!($first, $last, label!($rule, $choice), None, None, None, false)
+    };
+}
+
+// the same of a declarator that names something
+macro_rules! naming {
+    ($first:expr, $last:expr, $rule:ident, $choice:expr) => {
+        row!($first, $last, label!($rule, $choice), None, None, None, true)
+    };
+}
+
+// a place where a node may end before anything but a typedef name
+macro_rules! untyped {
+    ($first:expr, $last:expr, $rule:ident, $choice:expr) => {
+        row!($first, $last, label!($rule, $choice), Some(Terminal::Typed), None, None, false)
+    };
+}
+
+// a place where a production begins with a nonterminal that is read before
+macro_rules! corner {
+    ($first:expr, $last:expr, $goal:ident, $next:expr) => {
+        row!($first, $last, None, None, Some(Head { goal: Nonterminal::$goal, next: $next }), None, false)
+    };
+}
+
+// a place after a declarator of a parameter
+macro_rules! turning {
+    ($first:expr, $last:expr, $named:expr, $other:expr) => {
+        row!($first, $last, None, None, None, Some(Ways { named: $named, other: $other }), false)
+    };
+}
+
+'''
+def row_rs(i, p):
+    f = f'{er[i][0]}, {er[i][1]}'
+    assert sum(map(bool, (p['name'], p['corner'], p['turn']))) <= 1
+    if p['name']: return f'{"untyped" if p["bars"] else "naming" if is_named[i] else "ending"}!({f}, {p["name"][0]}, {p["name"][1]})'
+    if p['corner']: return f'corner!({f}, {p["corner"][0]}, {p["corner"][1]})'
+    if p['turn']: return f'turning!({f}, {p["turn"][0]}, {p["turn"][1]})'
+    return f'inner!({f})'
+q += chunked('ROWS', 'Row', [row_rs(i, p) for i, p in enumerate(P)], 0, False) + fn('rows', 'ROWS', 'Row', 'The places')
+w('src/place_rows.rt', q)
+q = '''//! The nonterminals. Written by tools/grammar/emit_expr.py.
+
+ghost use Rattle.std.specs.Prelude.{◌≡◌};
+ghost use Rattle.cl_expr.specs.code.Table as t;
+
+use crate::table::GoalRow;
+use cl_tree::{Class, Span};
+
+macro_rules! span {
+    ($from:expr, $to:expr) => {
+        Span {
+            from: $from,
+            to: $to,
+        }
+    };
+}
+
+macro_rules! goal {
+    ($kinds:expr, $openers:expr, $suffixes:expr, $firsts:expr) => {
+        GoalRow {
+            kinds: $kinds,
+            openers: $openers,
+            suffixes: $suffixes,
+            firsts: $firsts,
+        }
+    };
+}
+
+'''
+sp = lambda r: f'span!({r[0]}, {r[1]})'
+q += chunked('GOALS', 'GoalRow', [f'goal!({sp(kr[i])}, {sp(orr[i])}, {sp(sr[i])}, {sp(fr[i])})' for i in range(len(GOALS))], 0, False)
+q += chunked('KINDS', 'u16', [str(z) for g in GOALS for z in K[g]], 0)
+q += chunked('OPENERS', 'u16', [str(z) for g in GOALS for z in openers[g]], 0)
+q += chunked('SUFFIXES', 'u16', [str(z) for g in GOALS for z in suffixes[g]], 0)
+q += '\n'.join(fn(*x) for x in (('goal_rows', 'GOALS', 'GoalRow', 'The nonterminals'), ('all_kinds', 'KINDS', 'u16', 'The places where the trees of each nonterminal end'),
+    ('all_openers', 'OPENERS', 'u16', 'The places at the left end of each nonterminal'), ('all_suffixes', 'SUFFIXES', 'u16', 'The places that go on from there')))
+w('src/goal_rows.rt', q.replace('use cl_tree::{Class, Span};', 'use cl_tree::Span;'))
+q = '''//! The classes of tokens that begin each nonterminal. Written by tools/grammar/emit_expr.py.
+
+ghost use Rattle.std.specs.Prelude.{◌≡◌};
+ghost use Rattle.cl_expr.specs.code.Table as t;
+
+use cl_tree::Class;
+
+'''
+q += chunked('FIRSTS', 'Class', [f'Class::{c}' for x in SETS_OF for c in x], 0) + fn('all_firsts', 'FIRSTS', 'Class', 'The classes of tokens that begin each nonterminal')
+w('src/first_rows.rt', q)
+w('src/table.rt', '''//! Where the parser goes: places in the productions, as numbers of rows.
+
+use cl_tree::{Nonterminal, Rule, Separator, Span, Symbol, Terminal};
 
 /// What may stand at a place, and the place after it.
 #[derive(Clone, Copy)]
@@ -59,7 +250,9 @@ pub struct Ways {
     pub other: u16,
 }
 
-/// A place: its edges as a range of all of them, the node that may end there, what may not follow it then, and so on.
+/// A place: its edges as a range of all of them, the node that may end there and what may not follow it then, the
+/// nonterminal with which its production begins if that is read before, the places after a part whose kind decides, and
+/// whether the node is a declarator that names something.
 #[derive(Clone, Copy)]
 pub struct Row {
     pub first: u16,
@@ -71,13 +264,6 @@ pub struct Row {
     pub named: bool,
 }
 
-/// A part of a list.
-#[derive(Clone, Copy)]
-pub struct Span {
-    pub from: u16,
-    pub to: u16,
-}
-
 /// A nonterminal: the places where its trees end, those at its left end and those that go on from there, and the classes
 /// of tokens that begin it, as ranges.
 #[derive(Clone, Copy)]
@@ -87,26 +273,7 @@ pub struct GoalRow {
     pub suffixes: Span,
     pub firsts: Span,
 }
-
-'''
-o += chunked('EDGES', 'Edge', [f'Edge {{ before: {sep_rs(a)}, symbol: {sym_rs(s)}, next: {n} }}' for a, s, n in flat_edges], 0, False)
-def row_rs(i, q):
-    lab = f'Some(Label {{ rule: Rule::{q["name"][0]}, choice: {q["name"][1]} }})' if q['name'] else 'None'
-    bar = f'Some({term_rs("Typed")})' if q['bars'] else 'None'
-    cor = f'Some(Head {{ goal: Nonterminal::{q["corner"][0]}, next: {q["corner"][1]} }})' if q['corner'] else 'None'
-    tur = f'Some(Ways {{ named: {q["turn"][0]}, other: {q["turn"][1]} }})' if q['turn'] else 'None'
-    return f'Row {{ first: {er[i][0]}, last: {er[i][1]}, label: {lab}, bar: {bar}, corner: {cor}, turning: {tur}, named: {"true" if is_named[i] else "false"} }}'
-o += chunked('ROWS', 'Row', [row_rs(i, q) for i, q in enumerate(P)], 0, False)
-sp = lambda r: f'Span {{ from: {r[0]}, to: {r[1]} }}'
-o += chunked('GOALS', 'GoalRow', [f'GoalRow {{ kinds: {sp(kr[i])}, openers: {sp(orr[i])}, suffixes: {sp(sr[i])}, firsts: {sp(fr[i])} }}' for i in range(len(GOALS))], 0, False)
-o += chunked('KINDS', 'u16', [str(z) for g in GOALS for z in K[g]], 0)
-o += chunked('OPENERS', 'u16', [str(z) for g in GOALS for z in openers[g]], 0)
-o += chunked('SUFFIXES', 'u16', [str(z) for g in GOALS for z in suffixes[g]], 0)
-o += chunked('FIRSTS', 'Class', [f'Class::{c}' for g in GOALS for c in order(F[g])], 0)
-for fn, st, ty, doc in (('all_edges', 'EDGES', 'Edge', 'The edges of all places, one place after the other'), ('rows', 'ROWS', 'Row', 'The places'), ('goal_rows', 'GOALS', 'GoalRow', 'The nonterminals'),
-    ('all_kinds', 'KINDS', 'u16', 'The places where the trees of each nonterminal end'), ('all_openers', 'OPENERS', 'u16', 'The places at the left end of each nonterminal'), ('all_suffixes', 'SUFFIXES', 'u16', 'The places that go on from there'), ('all_firsts', 'FIRSTS', 'Class', 'The classes of tokens that begin each nonterminal')):
-    o += f'/// {doc}.\npub fn {fn}() -> &\'static [{ty}]\n    ensures {{ result.now ≡ t.{fn} }}\n{{\n    &{st}\n}}\n\n'
-w('src/table.rt', o.rstrip() + '\n')
+''')
 A = '''-- The places in the productions. Written by tools/grammar/emit_expr.py; proofs/Conditions and proofs/Bridge check it against the productions.
 use Rattle.std.specs.Prelude.{ℕ, List, [], ◌∷◌, ◌++◌, Option, Some, None, Bool, true, false, cond, slice_get, slice_range}
 use Rattle.cl_tree.specs.declared.class.Class.{Class}
@@ -127,7 +294,7 @@ use Rattle.cl_expr.specs.declared.table.Head.{Head}
 use Rattle.cl_expr.specs.declared.table.Ways.{Ways}
 use Rattle.cl_expr.specs.declared.table.Row.{Row}
 use Rattle.cl_expr.specs.declared.table.GoalRow.{GoalRow}
-use Rattle.cl_expr.specs.declared.table.Span.{Span}
+use Rattle.cl_tree.specs.declared.grammar.Span.{Span}
 
 -- a production, by its number, and how many parts of its right side are behind
 pub record Item : Type 0 where
@@ -296,7 +463,13 @@ unfoldable pub all_suffixes : List ℕ
 all_suffixes = flat_map (λ g. g.suffixes) goals
 
 unfoldable pub all_firsts : List Class
-all_firsts = flat_map (λ g. g.firsts) goals
+all_firsts =
+''' + ''.join('    ' + ' ∷ '.join('cl.' + c for c in x) + ' ∷\n' for x in SETS_OF) + '''    []
+
+-- where in that list the tokens stand that begin each nonterminal
+unfoldable pub first_spans : List Span
+first_spans =
+''' + ''.join(f'    record {{ from = {a}; to = {b} }} ∷\n' for a, b in fr) + '''    []
 
 abbrev rows_from : ℕ → List Place → List Row
 rows_from n [] = []
@@ -305,20 +478,21 @@ rows_from n (p ∷ ps) = record { first = n; last = n + length p.edges; label = 
 abbrev span : ℕ → ℕ → Span
 span n k = record { from = n; to = n + k }
 
-abbrev goal_rows_from : ℕ → ℕ → ℕ → ℕ → List Goal → List GoalRow
-goal_rows_from a b c d [] = []
-goal_rows_from a b c d (g ∷ gs) =
-    record { kinds = span a (length g.kinds); openers = span b (length g.openers); suffixes = span c (length g.suffixes); firsts = span d (length g.firsts) }
-    ∷ goal_rows_from (a + length g.kinds) (b + length g.openers) (c + length g.suffixes) (d + length g.firsts) gs
+abbrev goal_rows_from : ℕ → ℕ → ℕ → List Span → List Goal → List GoalRow
+goal_rows_from a b c spans [] = []
+goal_rows_from a b c [] (g ∷ gs) = []
+goal_rows_from a b c (s ∷ spans) (g ∷ gs) =
+    record { kinds = span a (length g.kinds); openers = span b (length g.openers); suffixes = span c (length g.suffixes); firsts = s }
+    ∷ goal_rows_from (a + length g.kinds) (b + length g.openers) (c + length g.suffixes) spans gs
 
 unfoldable pub rows : List Row
 rows = rows_from 0 places
 
 unfoldable pub goal_rows : List GoalRow
-goal_rows = goal_rows_from 0 0 0 0 goals
+goal_rows = goal_rows_from 0 0 0 first_spans goals
 '''
 A = A.replace('slice_get, slice_range}', 'slice_get, length, ◌+◌}')
-w('specs/Table.antt', A)
+w('specs/code/Table.antt', A)
 L = '''-- Every class, and numbers that tell apart.
 use Rattle.std.proofs.Common.{◌≡◌, ℕ, ◌+◌, List, [], ◌∷◌, refl, ap, sym, ◌∙◌, arith}
 use Rattle.std.specs.Prelude.{Option, Some, None, slice_get}
@@ -330,7 +504,7 @@ use Rattle.cl_tree.specs.declared.grammar.Act.{Act}
 use Rattle.cl_tree.specs.declared.grammar.Act.TheVariants as ac
 use Rattle.cl_tree.specs.declared.rule.Rule.{Rule}
 use Rattle.cl_tree.specs.declared.rule.Rule.TheVariants as ru
-use Rattle.cl_expr.specs.Table.{number}
+use Rattle.cl_expr.specs.code.Table.{number}
 
 '''
 for one, ty, m, xs in (('class', 'Class', 'cl', CLASSES), ('goal', 'Nonterminal', 'nt', GOALS), ('act', 'Act', 'ac', ACTS), ('rule', 'Rule', 'ru', ['Token', 'Hole', 'Bad'] + RULES_TREE)):

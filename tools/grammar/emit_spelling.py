@@ -9,7 +9,7 @@ RAW = dict(LeftParen='Paren', Star='Star', Comma='Comma', Atomic='Atomic')
 # the commonest first
 FREQ = "LeftParen RightParen Comma Semicolon Equal Star Arrow LeftBrace RightBrace Dot LeftBracket RightBracket Ampersand Plus Minus Colon".split()
 PUN.sort(key=lambda x: FREQ.index(x[1]) if x[1] in FREQ and x[0] not in ('<:', ':>', '<%', '%>') else 99)
-def raw_rs(c): return f'Raw::{RAW[c]}' if c in RAW else f'Raw::Plain(Class::{c})'
+def raw_rs(c): return f'Raw::{RAW[c]}' if c in RAW else f'plain!({c})'
 def raw_a(c): return f'raw.{RAW[c]}' if c in RAW else f'(raw.Plain cl.{c})'
 PUNCTS = [(s, c, AHEAD.get(c, 'Other')) for s, c in PUN]
 if __name__ == '__main__':
@@ -29,9 +29,27 @@ pub struct Spelling {
     pub sort: Sort,
 }
 
+macro_rules! plain {
+    ($class:ident) => {
+        Raw::Plain(Class::$class)
+    };
+}
+
+macro_rules! spelled {
+    ($text:expr, $raw:expr, $ahead:ident) => {
+        Spelling {
+            text: $text,
+            sort: Sort {
+                raw: $raw,
+                ahead: Ahead::$ahead,
+            },
+        }
+    };
+}
+
 '''
     def tab(name, rows):
-        return f'static {name}: [Spelling; {len(rows)}] = [\n' + ''.join(f'    Spelling {{ text: b"{s}", sort: Sort {{ raw: {raw_rs(c)}, ahead: Ahead::{a} }} }},\n' for s, c, a in rows) + '];\n\n'
+        return f'static {name}: [Spelling; {len(rows)}] = [\n' + ''.join(f'    spelled!(b"{s}", {raw_rs(c)}, {a}),\n' for s, c, a in rows) + '];\n\n'
     o += '/// The keywords (N1570 6.4.1). Those of complex types stand in no production.\n' + tab('KEYWORDS', WORDS_) + '/// The punctuators of the grammar (N1570 6.4.6); `#` and `##` are none.\n' + tab('PUNCTUATORS', PUNCTS)
     o += '''fn keywords() -> &'static [Spelling]
     ensures { map s.plain result.now ≡ s.keywords }

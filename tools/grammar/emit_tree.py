@@ -93,18 +93,23 @@ pub struct Again {
     pub part: u8,
 }
 
+/// A part of a list, from one place up to, and without, another.
+#[derive(Clone, Copy)]
+pub struct Span {
+    pub from: u16,
+    pub to: u16,
+}
+
 /// A production that makes a node: its nonterminal, the node's rule and the number of the alternative, from 0, its right side
-/// as a range of `parts()`, how a list goes on as a range of `agains()`, and the tokens that may not follow it.
+/// in `parts()`, how a list goes on in `agains()`, and whether a typedef name may follow.
 #[derive(Clone, Copy)]
 pub struct Production {
     pub of: Nonterminal,
     pub rule: Rule,
     pub choice: u8,
-    pub first: u16,
-    pub last: u16,
-    pub again_first: u16,
-    pub again_last: u16,
-    pub bar: Option<Terminal>,
+    pub parts: Span,
+    pub again: Span,
+    pub typed: bool,
 }
 
 /// A production whose right side is one nonterminal: its tree stands for the other one.
@@ -116,17 +121,58 @@ pub struct Unit {
 
 '''
     flat = [x for p in PRODS for x in p['parts']]; more = [x for p in PRODS for x in p['again']]
-    o += f'static PARTS: [Part; {len(flat)}] = [\n' + ''.join(f'    Part::{PART[k]}({sym_rs(s)}),\n' for k, s in flat) + '];\n\n'
-    o += f'static AGAIN: [Again; {len(more)}] = [\n' + ''.join(f'    Again {{ separator: Separator {{ class: Class::{c}, act: Act::{a} }}, part: {i} }},\n' for c, a, i in more) + '];\n\n'
-    at = [0, 0]
-    def prod_rs(p):
-        bar = f'Some({term_rs("Typed")})' if p['bars'] else 'None'; assert not p['bars'] or p['bars'] == SETS['Typed']
-        f, m = at; at[0] += len(p['parts']); at[1] += len(p['again'])
-        return f'    Production {{ of: Nonterminal::{p["of"]}, rule: Rule::{p["rule"]}, choice: {p["choice"]}, first: {f}, last: {at[0]}, again_first: {m}, again_last: {at[1]}, bar: {bar} }},\n'
-    o += f'static PRODUCTIONS: [Production; {len(PRODS)}] = [\n' + ''.join(prod_rs(p) for p in PRODS) + '];\n\n'
-    units = [(g, u) for g in GOALS for u in UNITS.get(g, [])]
-    o += f'static UNITS: [Unit; {len(units)}] = [\n' + ''.join(f'    Unit {{ of: Nonterminal::{g}, by: Nonterminal::{u} }},\n' for g, u in units) + '];\n\n'
-    o += '''/// The parts of the right sides, one production's after the other's.
+    def csym(s): return f'node!({s[1]})' if s[0] == 'N' else (f'token!({cterm(s[1])})' if s[2] == 'Stay' else f'act!({cterm(s[1])}, {s[2]})')
+    def cterm(t): return f'Terminal::{t}' if t in SETS else f'is!({t})'
+    w('src/grammar.rt', o.replace('ghost use Rattle.std.specs.Prelude.{◌≡◌, map};\nghost use Rattle.cl_tree.specs.Grammar as g;\n\n', '').rstrip() + '\n')
+    q = """//! The right sides of the productions, one after the other. Written by tools/grammar/emit_tree.py.
+
+ghost use Rattle.std.specs.Prelude.{◌≡◌};
+ghost use Rattle.cl_tree.specs.Grammar as g;
+
+use crate::class::Class;
+use crate::grammar::{Act, Again, Part, Separator, Symbol, Terminal};
+use crate::nonterminal::Nonterminal;
+
+macro_rules! is {
+    ($class:ident) => {
+        Terminal::Is(Class::$class)
+    };
+}
+
+macro_rules! token {
+    ($terminal:expr) => {
+        Symbol::Token($terminal, Act::Stay)
+    };
+}
+
+macro_rules! act {
+    ($terminal:expr, $act:ident) => {
+        Symbol::Token($terminal, Act::$act)
+    };
+}
+
+macro_rules! node {
+    ($goal:ident) => {
+        Symbol::Node(Nonterminal::$goal)
+    };
+}
+
+macro_rules! again {
+    ($class:ident, $act:ident, $part:expr) => {
+        Again {
+            separator: Separator {
+                class: Class::$class,
+                act: Act::$act,
+            },
+            part: $part,
+        }
+    };
+}
+
+"""
+    q += f'static PARTS: [Part; {len(flat)}] = [\n' + ''.join(f'    Part::{PART[k]}({csym(x)}),\n' for k, x in flat) + '];\n\n'
+    q += f'static AGAIN: [Again; {len(more)}] = [\n' + ''.join(f'    again!({c}, {x}, {i}),\n' for c, x, i in more) + '];\n\n'
+    q += """/// The parts of the right sides, one production's after the other's.
 pub fn parts() -> &'static [Part]
     ensures { result.now ≡ g.all_parts }
 {
@@ -139,8 +185,91 @@ pub fn agains() -> &'static [Again]
 {
     &AGAIN
 }
+"""
+    w('src/part_rows.rt', q)
+    units = [(g, u) for g in GOALS for u in UNITS.get(g, [])]
+    q = """//! The productions. Written by tools/grammar/emit_tree.py.
 
-/// The productions that make a node.
+ghost use Rattle.std.specs.Prelude.{◌≡◌, map};
+ghost use Rattle.cl_tree.specs.Grammar as g;
+
+use crate::grammar::{Production, Span, Unit};
+use crate::nonterminal::Nonterminal;
+use crate::rule::Rule;
+
+// a production, with its right side from one part up to another
+macro_rules! made {
+    ($of:ident, $rule:ident, $choice:expr, $from:expr, $to:expr) => {
+        Production {
+            of: Nonterminal::$of,
+            rule: Rule::$rule,
+            choice: $choice,
+            parts: Span {
+                from: $from,
+                to: $to,
+            },
+            again: Span { from: 0, to: 0 },
+            typed: true,
+        }
+    };
+}
+
+// a production after which no typedef name may stand
+macro_rules! untyped {
+    ($of:ident, $rule:ident, $choice:expr, $from:expr, $to:expr) => {
+        Production {
+            of: Nonterminal::$of,
+            rule: Rule::$rule,
+            choice: $choice,
+            parts: Span {
+                from: $from,
+                to: $to,
+            },
+            again: Span { from: 0, to: 0 },
+            typed: false,
+        }
+    };
+}
+
+// a list whose members are separated
+macro_rules! list {
+    ($of:ident, $rule:ident, $from:expr, $to:expr, $again:expr, $end:expr) => {
+        Production {
+            of: Nonterminal::$of,
+            rule: Rule::$rule,
+            choice: 0,
+            parts: Span {
+                from: $from,
+                to: $to,
+            },
+            again: Span {
+                from: $again,
+                to: $end,
+            },
+            typed: true,
+        }
+    };
+}
+
+macro_rules! unit {
+    ($of:ident, $by:ident) => {
+        Unit {
+            of: Nonterminal::$of,
+            by: Nonterminal::$by,
+        }
+    };
+}
+
+"""
+    at = [0, 0]
+    def prod_rs(p):
+        f, m = at; at[0] += len(p['parts']); at[1] += len(p['again'])
+        n = f'{p["of"]}, {p["rule"]}'
+        if p['again']: return f'    list!({n}, {f}, {at[0]}, {m}, {at[1]}),\n'
+        return f'    {"untyped" if p["bars"] else "made"}!({n}, {p["choice"]}, {f}, {at[0]}),\n'
+    q += f'static PRODUCTIONS: [Production; {len(PRODS)}] = [\n' + ''.join(prod_rs(p) for p in PRODS) + '];\n\n'
+    q += f'static UNITS: [Unit; {len(units)}] = [\n' + ''.join(f'    unit!({g}, {u}),\n' for g, u in units) + '];\n\n'
+    q += """/// The productions that make a node, in the order of N1570 A.2.
 pub fn productions() -> &'static [Production]
     ensures { map g.plain result.now ≡ g.productions }
 {
@@ -153,11 +282,11 @@ pub fn units() -> &'static [Unit]
 {
     &UNITS
 }
-'''
-    w('src/grammar.rt', o)
+"""
+    w('src/production_rows.rt', q)
     a = '''-- The grammar of expressions and declarations: N1570 A.2.1 and A.2.2, in the standard's order and with its section numbers.
 -- Written by tools/grammar/emit_tree.py from tools/grammar/annex.py.
-use Rattle.std.specs.Prelude.{ℕ, List, [], ◌∷◌, ◌++◌, Option, Some, None, slice_range}
+use Rattle.std.specs.Prelude.{ℕ, List, [], ◌∷◌, ◌++◌, Option, Some, None, cond, slice_range}
 use Rattle.cl_tree.specs.declared.class.Class.{Class}
 use Rattle.cl_tree.specs.declared.class.Class.TheVariants as cl
 use Rattle.cl_tree.specs.declared.rule.Rule.{Rule}
@@ -265,6 +394,6 @@ unfoldable pub all_agains : List Again
 all_agains = agains_of productions
 
 abbrev pub plain : ProductionRow → Production
-plain p = record { of = p.of; rule = p.rule; choice = p.choice; parts = slice_range all_parts p.first p.last; again = slice_range all_agains p.again_first p.again_last; bar = p.bar }
+plain p = record { of = p.of; rule = p.rule; choice = p.choice; parts = slice_range all_parts p.parts.from p.parts.to; again = slice_range all_agains p.again.from p.again.to; bar = cond p.typed None (Some te.Typed) }
 '''
     w('specs/Grammar.antt', a)

@@ -1,6 +1,6 @@
 -- Every class, and numbers that tell apart.
-use Rattle.std.proofs.Common.{◌≡◌, ℕ, ◌+◌, List, [], ◌∷◌, refl, ap, sym, ◌∙◌, arith}
-use Rattle.std.specs.Prelude.{Option, Some, None, slice_get}
+use Rattle.std.proofs.Common.{◌≡◌, ℕ, List, [], ◌∷◌, refl, ap, sym, ◌∙◌}
+use Rattle.std.specs.Prelude.{Some, slice_get}
 use Rattle.cl_tree.specs.declared.class.Class.{Class}
 use Rattle.cl_tree.specs.declared.class.Class.TheVariants as cl
 use Rattle.cl_tree.specs.declared.nonterminal.Nonterminal.{Nonterminal}
@@ -9,7 +9,7 @@ use Rattle.cl_tree.specs.declared.grammar.Act.{Act}
 use Rattle.cl_tree.specs.declared.grammar.Act.TheVariants as ac
 use Rattle.cl_tree.specs.declared.rule.Rule.{Rule}
 use Rattle.cl_tree.specs.declared.rule.Rule.TheVariants as ru
-use Rattle.cl_expr.specs.Table.{number}
+use Rattle.cl_expr.specs.code.Table.{number}
 
 abbrev pub all_classs : List Class
 all_classs = cl.Ident ∷ cl.IdentColon ∷ cl.TypedefName ∷ cl.TypedefColon ∷ cl.Constant ∷ cl.String ∷ cl.LeftParen ∷ cl.TypeParen ∷ cl.LiteralParen ∷ cl.RightParen ∷ cl.LeftBracket ∷ cl.RightBracket ∷ cl.LeftBrace ∷ cl.RightBrace ∷ cl.Dot ∷ cl.Arrow ∷ cl.PlusPlus ∷ cl.MinusMinus ∷ cl.Ampersand ∷ cl.Star ∷ cl.StarBracket ∷ cl.Plus ∷ cl.Minus ∷ cl.Tilde ∷ cl.Bang ∷ cl.Slash ∷ cl.Percent ∷ cl.ShiftLeft ∷ cl.ShiftRight ∷ cl.Less ∷ cl.Greater ∷ cl.LessEqual ∷ cl.GreaterEqual ∷ cl.EqualEqual ∷ cl.BangEqual ∷ cl.Caret ∷ cl.Bar ∷ cl.AndAnd ∷ cl.OrOr ∷ cl.Question ∷ cl.Colon ∷ cl.Semicolon ∷ cl.Ellipsis ∷ cl.Comma ∷ cl.LastComma ∷ cl.DesignationComma ∷ cl.Equal ∷ cl.StarEqual ∷ cl.SlashEqual ∷ cl.PercentEqual ∷ cl.PlusEqual ∷ cl.MinusEqual ∷ cl.ShiftLeftEqual ∷ cl.ShiftRightEqual ∷ cl.AmpersandEqual ∷ cl.CaretEqual ∷ cl.BarEqual ∷ cl.Sizeof ∷ cl.Alignof ∷ cl.Generic ∷ cl.Default ∷ cl.Case ∷ cl.If ∷ cl.Else ∷ cl.Switch ∷ cl.While ∷ cl.Do ∷ cl.For ∷ cl.Goto ∷ cl.Continue ∷ cl.Break ∷ cl.Return ∷ cl.StaticAssert ∷ cl.Typedef ∷ cl.Extern ∷ cl.Static ∷ cl.ThreadLocal ∷ cl.Auto ∷ cl.Register ∷ cl.Void ∷ cl.Char ∷ cl.Short ∷ cl.Int ∷ cl.Long ∷ cl.Float ∷ cl.Double ∷ cl.Signed ∷ cl.Unsigned ∷ cl.Bool ∷ cl.Struct ∷ cl.Union ∷ cl.Enum ∷ cl.Const ∷ cl.Restrict ∷ cl.Volatile ∷ cl.Atomic ∷ cl.AtomicParen ∷ cl.Inline ∷ cl.Noreturn ∷ cl.Alignas ∷ cl.Other ∷ []

@@ -1,11 +1,11 @@
 -- The tokens that may not follow a production, as the code has them.
-use Rattle.std.proofs.Common.{◌≡◌, ℕ, List, [], ◌∷◌, refl, sym, ◌∙◌, ap, subst}
-use Rattle.std.specs.Prelude.{Option, Some, None, slice_get}
+use Rattle.std.proofs.Common.{◌≡◌, ℕ, List, [], refl, sym, ◌∙◌, ap, subst}
+use Rattle.std.specs.Prelude.{Some, None}
 use Rattle.cl_tree.specs.declared.class.Class.{Class}
 use Rattle.cl_tree.specs.declared.grammar.Terminal.{Terminal}
 use Rattle.cl_tree.specs.Grammar.{takes}
 use Rattle.cl_tree.specs.Derives.{Has, barred}
-use Rattle.cl_expr.specs.Table.{bars, bar_of}
+use Rattle.cl_expr.specs.code.Table.{bars, bar_of}
 use Rattle.cl_expr.proofs.Checks.{none_not}
 
 pub bars_are : (q : ℕ) → bars q ≡ barred (bar_of q)

@@ -1,5 +1,5 @@
 -- Trees that lie on a way through the places are those that derive: each place spells productions, and each production is spelled by places.
-use Rattle.std.proofs.Common.{◌≡◌, ℕ, zero, suc, ◌+◌, ◌≤◌, ◌<◌, List, [], ◌∷◌, ◌++◌, ◌⊎◌, inl, inr, arith, refl, sym, ◌∙◌, ap, subst, Bool, true, false, not, ◌&&◌, ◌||◌, drop, length}
+use Rattle.std.proofs.Common.{◌≡◌, ℕ, zero, suc, ◌+◌, ◌<◌, List, [], ◌∷◌, ◌⊎◌, inl, inr, arith, refl, sym, ◌∙◌, ap, subst, Bool, true, false, ◌&&◌, ◌||◌, drop, length}
 use Rattle.std.specs.Prelude.{Option, Some, None, slice_get}
 use Rattle.std.proofs.Math.Dec.{eqb}
 use Rattle.std.proofs.lemmas.Bool.{eqb-true, and_parts, or_cases, false≢true}
@@ -10,22 +10,21 @@ use Rattle.cl_tree.specs.declared.grammar.Terminal.TheVariants as te
 use Rattle.cl_tree.specs.declared.grammar.Symbol.{Symbol}
 use Rattle.cl_tree.specs.declared.grammar.Symbol.TheVariants.{Token, Node}
 use Rattle.cl_tree.specs.declared.grammar.Separator.{Separator}
-use Rattle.cl_tree.specs.declared.grammar.Unit.{Unit as UnitRow}
-use Rattle.cl_tree.specs.declared.tree.Tree.{Tree, Tree-F, out-Tree}
+use Rattle.cl_tree.specs.declared.tree.Tree.{Tree}
 use Rattle.cl_tree.specs.declared.lexeme.Lexeme.{Lexeme}
 use Rattle.cl_tree.specs.declared.scope.Scope.{Scope}
-use Rattle.cl_tree.specs.Scopes.{empty, class_at, pass}
-use Rattle.cl_tree.specs.Grammar.{Production, productions, units, takes}
+use Rattle.cl_tree.specs.Scopes.{empty, pass}
+use Rattle.cl_tree.specs.Grammar.{Production, productions, units}
 use Rattle.cl_tree.specs.Derives as d
 use Rattle.cl_tree.specs.Derives.{Has, start, end, parts, leaf, left_out, Next, nexts, barred, StandsFor, itself, through, Derived, Spans}
 use Rattle.cl_expr.specs.declared.table.Edge.{Edge}
 use Rattle.cl_expr.specs.declared.table.Label.{Label}
 use Rattle.cl_expr.specs.declared.table.Ways.{Ways}
-use Rattle.cl_expr.specs.Table.{Item, Place, places, place, nowhere, goal, goals, number, starts, edges, name_of, bars, bar_of, turn, turned, turning, is_named, home, items, kinds}
-use Rattle.cl_expr.specs.Paths as p
-use Rattle.cl_expr.specs.Paths.{name, Ended, Path, Kind, At, Whole}
+use Rattle.cl_expr.specs.code.Table.{Item, Place, places, place, nowhere, goal, goals, number, starts, edges, name_of, bars, bar_of, turn, turned, turning, is_named, home, items, kinds}
+use Rattle.cl_expr.specs.code.Paths as p
+use Rattle.cl_expr.specs.code.Paths.{name, Ended, Path, Kind, At, Whole}
 use Rattle.cl_expr.proofs.All.{all_goals, numbered_goal, class_number, same_class_is, act_number, same_act_is, same_goal_is, rule_number, same_rule_is}
-use Rattle.cl_expr.proofs.Checks.{every, some, member, when, is_some, when_use, some_true, none_not, some_is, every_at, every_has, has_member, member_has}
+use Rattle.cl_expr.proofs.Checks.{every, some, when, when_use, none_not, some_is, every_has, member_has}
 use Rattle.cl_expr.proofs.Conditions.{Way, numbers, every_place, either, home_next, kind_in, place_number}
 use Rattle.cl_expr.proofs.Heights.{kind_of, of_kind, kind_flat}
 use Rattle.cl_expr.proofs.Reading.{way_of}
@@ -36,8 +35,9 @@ use Rattle.std.proofs.lemmas.Option.{slice_get_within}
 pub some_of : {X : Type 0} (f : X → Bool) (xs : List X) → some f xs ≡ true → (x : X) × Has xs x × (f x ≡ true)
 some_of f [] t = absurd (false≢true t)
 some_of f (y ∷ ys) t = elim (or_cases (f y) (some f ys) t) [
-  inl a ↦ (y, (0, refl), a)
-  | inr b ↦ (let o = some_of f ys b in (o.0, (suc o.1.0, o.1.1), o.2)) ]
+  | inl a ↦ (y, (0, refl), a)
+  | inr b ↦ (let o = some_of f ys b in (o.0, (suc o.1.0, o.1.1), o.2))
+]
 
 -- equality of symbols
 abbrev terminal_number : Terminal → ℕ
@@ -293,8 +293,14 @@ spelled_use f b is j t =
     let u = and_parts (before_eq x.0.before b) _ x.2 in
     let v = and_parts (f x.0.symbol) (eqb x.0.behind j.behind) u.1 in
     record {
-      item_there = o.0; has = o.1; same = eqb-true o.0.production j.production q.0; next_there = x.0; nexts_have = x.1;
-      before_is = before_same x.0.before b u.0; passes = v.0; behind_is = eqb-true x.0.behind j.behind v.1;
+      item_there = o.0;
+      has = o.1;
+      same = eqb-true o.0.production j.production q.0;
+      next_there = x.0;
+      nexts_have = x.1;
+      before_is = before_same x.0.before b u.0;
+      passes = v.0;
+      behind_is = eqb-true x.0.behind j.behind v.1;
     }
 
 -- a symbol of a production is that of an edge, or a narrower nonterminal
@@ -321,20 +327,26 @@ back_of q e y has way j there = go e.symbol refl (turning e.next) (every_has (λ
   where
     made : (f : Symbol → Bool) → Spelled f e.before (items q) j → ((x : Symbol) → f x ≡ true → Narrower x e.symbol y) → Back q e y j
     made f o n = record {
-      item_there = o.item_there; has = o.has; same = o.same; next_there = o.next_there; nexts_have = o.nexts_have; before_is = o.before_is; behind_is = o.behind_is;
+      item_there = o.item_there;
+      has = o.has;
+      same = o.same;
+      next_there = o.next_there;
+      nexts_have = o.nexts_have;
+      before_is = o.before_is;
+      behind_is = o.behind_is;
       fits = n o.next_there.symbol o.passes;
     }
 
     go : (s : Symbol) → e.symbol ≡ s → (o : Option Ways) → back_by e (items q) s o ≡ true → Way s y → Has (items (turned o e.next (is_named y))) j → Back q e y j
     go s is None t w h =
         made (λ x. symbol_eq x s) (spelled_use (λ x. symbol_eq x s) e.before (items q) j (every_has (spelled (λ x. symbol_eq x s) e.before (items q)) (items e.next) t j h))
-          (λ x p. inl (symbol_same x s p ∙ sym is))
+        (λ x p. inl (symbol_same x s p ∙ sym is))
     go (Token k a) is (Some w) t way h = absurd (false≢true t)
     go (Node m) is (Some w) t way h =
         let u = every_has (λ v. every (spelled (λ x. takes_kind x v) e.before (items q)) (items (turned (Some w) e.next (is_named v)))) (kinds m) t y way in
         made (λ x. takes_kind x y)
-          (spelled_use (λ x. takes_kind x y) e.before (items q) j (every_has (spelled (λ x. takes_kind x y) e.before (items q)) (items (turned (Some w) e.next (is_named y))) u j h))
-          (λ x p. (let o = takes_kind_use x y p in inr (o.0, m, o.1, is, o.2)))
+        (spelled_use (λ x. takes_kind x y) e.before (items q) j (every_has (spelled (λ x. takes_kind x y) e.before (items q)) (items (turned (Some w) e.next (is_named y))) u j h))
+        (λ x p. (let o = takes_kind_use x y p in inr (o.0, m, o.1, is, o.2)))
 
 -- a production that may end at a place
 record Ending (z : ℕ) (g : Nonterminal) : Type 0 where
@@ -350,11 +362,12 @@ record Ending (z : ℕ) (g : Nonterminal) : Type 0 where
 stands_use : (n : ℕ) (g f : Nonterminal) → stands n g f ≡ true → StandsFor g f
 stands_use zero g f t = absurd (false≢true t)
 stands_use (suc n) g f t = elim (or_cases (eqb (number g) (number f)) _ t) [
-  inl a ↦ subst (StandsFor g) (same_goal_is g f (eqb-true (number g) (number f) a)) itself
+  | inl a ↦ subst (StandsFor g) (same_goal_is g f (eqb-true (number g) (number f) a)) itself
   | inr b ↦ (
-    let o = some_of (λ u. eqb (number u.of) (number g) && stands n u.by f) units b in
-    let q = and_parts (eqb (number o.0.of) (number g)) (stands n o.0.by f) o.2 in
-    subst (λ (v : Nonterminal). StandsFor v f) (same_goal_is o.0.of g (eqb-true (number o.0.of) (number g) q.0)) (through o.0 o.1 (stands_use n o.0.by f q.1))) ]
+      let o = some_of (λ u. eqb (number u.of) (number g) && stands n u.by f) units b in
+      let q = and_parts (eqb (number o.0.of) (number g)) (stands n o.0.by f) o.2 in
+      subst (λ (v : Nonterminal). StandsFor v f) (same_goal_is o.0.of g (eqb-true (number o.0.of) (number g) q.0)) (through o.0 o.1 (stands_use n o.0.by f q.1)))
+]
 
 label_use : (o : Option Label) (r : Production) → label_eq o r ≡ true → o ≡ Some (record { rule = r.rule; choice = r.choice })
 label_use None r t = absurd (false≢true t)
@@ -391,7 +404,7 @@ production_of : (g : Nonterminal) (z : ℕ) → Has (kinds g) z → Ending z g
 production_of g z has =
     let t = every_has c_kind all_goals goals_kind g (number g, numbered_goal g) in
     let o = some_of (λ i. ends_item i && stands_by g (slice_get productions i.production)) (items z)
-          (every_has (λ v. some (λ i. ends_item i && stands_by g (slice_get productions i.production)) (items v)) (kinds g) t z has) in
+    (every_has (λ v. some (λ i. ends_item i && stands_by g (slice_get productions i.production)) (items v)) (kinds g) t z has) in
     let q = and_parts (ends_item o.0) (stands_by g (slice_get productions o.0.production)) o.2 in
     ending_by z g o.0 o.1 q.0 q.1
 
@@ -405,8 +418,9 @@ home_none z none = ap (λ (p : Place). p.home) none
 
 home_first : (z : ℕ) (i : Item) → Has (items (home z)) i → i.behind ≡ 0
 home_first z i has = elim (either z) [
-  inl none ↦ absurd (none_not (subst (λ (v : List Item). slice_get v has.0 ≡ Some i) (ap items (home_none z none) ∙ first_none) has.1))
-  | inr h ↦ eqb-true i.behind 0 (every_has (λ v. eqb v.behind 0) (items (home z)) (every_has c_home (numbers 0 places) places_home z h) i has) ]
+  | inl none ↦ absurd (none_not (subst (λ (v : List Item). slice_get v has.0 ≡ Some i) (ap items (home_none z none) ∙ first_none) has.1))
+  | inr h ↦ eqb-true i.behind 0 (every_has (λ v. eqb v.behind 0) (items (home z)) (every_has c_home (numbers 0 places) places_home z h) i has)
+]
 
 -- from places to productions
 module _ (cs : List Lexeme) (h : ℕ) (f : (g : Nonterminal) (z : ℕ) (sa : Scope) (t : Tree) (sw : Scope) → At cs h g z sa t sw → Derived cs h g sa t sw) where
@@ -437,9 +451,11 @@ module _ (cs : List Lexeme) (h : ℕ) (f : (g : Nonterminal) (z : ℕ) (sa : Sco
       let here : slice_get productions b.item_there.production ≡ Some r = ap (slice_get productions) b.same ∙ is in
       let can : Has (nexts r b.item_there.behind) b.next_there = subst (λ (v : Option Production). Has (nexts_by v b.item_there.behind) b.next_there) here b.nexts_have in
       let reads = subst (λ (v : Option Separator). d.ReadsAfter (Derived cs h) h cs v b.next_there.symbol sa at t path.2) (sym b.before_is)
-            (after_reads e.before b.next_there.symbol e.symbol y b.fits sa at t path.2 path.4) in
-      (b.item_there.behind, subst (λ (n : ℕ). Has (items q) (item n b.item_there.behind)) b.same b.has,
-        (b.next_there, path.2, can, reads, subst (λ (n : ℕ). d.Follows (Derived cs h) h cs r n path.2 (end t) to ps sw) (sym b.behind_is) rest.2))
+      (after_reads e.before b.next_there.symbol e.symbol y b.fits sa at t path.2 path.4) in (
+        b.item_there.behind,
+        subst (λ (n : ℕ). Has (items q) (item n b.item_there.behind)) b.same b.has,
+        (b.next_there, path.2, can, reads, subst (λ (n : ℕ). d.Follows (Derived cs h) h cs r n path.2 (end t) to ps sw) (sym b.behind_is) rest.2),
+      )
 
 pub derived_of : (cs : List Lexeme) (h : ℕ) (g : Nonterminal) (z : ℕ) (sa : Scope) (t : Tree) (sw : Scope) → At cs h g z sa t sw → Derived cs h g sa t sw
 unfolding Derived
@@ -449,10 +465,17 @@ derived_of cs (suc h) g z sa t sw a =
     let o = production_of g z a.0 in
     let fl = follow cs h (λ g' z' sa' t' sw' a'. derived_of cs h g' z' sa' t' sw' a') (parts t) (home z) sa (start t) (end t) z sw k.1 o.item_there o.has o.made o.is o.out in
     let none : fl.0 ≡ 0 = home_first z (item o.item_there.production fl.0) fl.1 in
-    let label : name t ≡ record { rule = o.made.rule; choice = o.made.choice } = some_is (sym k.0.0 ∙ o.label_is) in
-    (o.made, (o.item_there.production, o.is), o.stands_for,
-      (ap (λ (l : Label). l.rule) label, ap (λ (l : Label). l.choice) label, subst (λ (n : ℕ). d.Follows (Derived cs h) h cs o.made n sa (start t) (end t) (parts t) sw) none fl.2,
-        λ c token bar. k.0.1 c token (subst (λ (v : List Class). Has v c) (sym o.bars_same) bar)))
+    let label : name t ≡ record { rule = o.made.rule; choice = o.made.choice } = some_is (sym k.0.0 ∙ o.label_is) in (
+      o.made,
+      (o.item_there.production, o.is),
+      o.stands_for,
+      (
+        ap (λ (l : Label). l.rule) label,
+        ap (λ (l : Label). l.choice) label,
+        subst (λ (n : ℕ). d.Follows (Derived cs h) h cs o.made n sa (start t) (end t) (parts t) sw) none fl.2,
+        λ c token bar. k.0.1 c token (subst (λ (v : List Class). Has v c) (sym o.bars_same) bar),
+      ),
+    )
 
 -- from productions to places
 -- a symbol of a production is that of an edge, or a nonterminal that the edge takes too
@@ -484,7 +507,9 @@ forth_of q n b x has can =
     let o = some_of (forth_edge n x) (edges q) (every_has (λ v. some (forth_edge n v) (edges q)) (nexts_item (item n b)) t x can) in
     let u = and_parts (before_eq x.before o.0.before) (forth_by n x o.0 x.symbol o.0.symbol (turning o.0.next)) o.2 in
     record {
-      edge_there = o.0; has = o.1; before_is = before_same x.before o.0.before u.0;
+      edge_there = o.0;
+      has = o.1;
+      before_is = before_same x.before o.0.before u.0;
       goes_to = λ y w. forth_to n x o.0 x.symbol o.0.symbol refl refl (turning o.0.next) u.1 y w;
     }
 
@@ -531,7 +556,11 @@ module _ (cs : List Lexeme) (h : ℕ) (f : (g : Nonterminal) (sa : Scope) (t : T
       let reads = subst (λ (v : Option Separator). p.ReadsAfter (At cs h) h cs v e.symbol y sa at t fl.1) o.before_is (after_wide x.before x.symbol e.symbol y g.1 sa at t fl.1 k.2) in
       let rest = path_of r n is ps x.behind (turn e.next y) fl.1 (end t) to sw g.0 fl.4 in
       record {
-        last = rest.last; path = (e, y, fl.1, o.has, reads, rest.path); behind = rest.behind; has = rest.has; out = rest.out;
+        last = rest.last;
+        path = (e, y, fl.1, o.has, reads, rest.path);
+        behind = rest.behind;
+        has = rest.has;
+        out = rest.out;
         home_is = rest.home_is ∙ home_next q e y o.has (way_of cs h e.before e.symbol y sa at t fl.1 reads);
       }
 
@@ -586,10 +615,14 @@ kind_of_derived cs (suc h) g sa t sw a =
     let ends : ends_item (item n w.behind) ≡ true = subst (λ (v : Option Production). ends_by v w.behind ≡ true) (sym is) w.out in
     let l = label_at z (item n w.behind) r w.has is ends in
     let home_is : s.first ≡ home z = sym (w.home_is ∙ s.home_is) in
-    let label : record { rule = r.rule; choice = r.choice } ≡ name t = (let x = sym a.3.0 in let y = sym a.3.1 in (λ i. record { rule = x i; choice = y i })) in
-    (z, (kinds_have g r.of a.2 z (own_kind z n w.behind r w.has is ends),
-      of_kind cs h z sa t sw (l.0 ∙ ap Some label, λ c token bar. a.3.3 c token (subst (λ (v : List Class). Has v c) l.1 bar))
-        (subst (λ (v : ℕ). Path (At cs h) h cs v sa (start t) (end t) (parts t) z sw) home_is w.path)))
+    let label : record { rule = r.rule; choice = r.choice } ≡ name t = (let x = sym a.3.0 in let y = sym a.3.1 in (λ i. record { rule = x i; choice = y i })) in (
+      z,
+      (
+        kinds_have g r.of a.2 z (own_kind z n w.behind r w.has is ends),
+        of_kind cs h z sa t sw (l.0 ∙ ap Some label, λ c token bar. a.3.3 c token (subst (λ (v : List Class). Has v c) l.1 bar))
+            (subst (λ (v : ℕ). Path (At cs h) h cs v sa (start t) (end t) (parts t) z sw) home_is w.path),
+      ),
+    )
 
 -- the two views of a whole tree
 pub to_derives : (g : Nonterminal) (cs : List Lexeme) (t : Tree) → Whole g cs t → Spans g cs t

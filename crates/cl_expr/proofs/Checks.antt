@@ -1,5 +1,5 @@
 -- Finite checks as Bools, and what they show.
-use Rattle.std.proofs.Common.{◌≡◌, ℕ, zero, suc, ◌+◌, ◌≤◌, ◌<◌, List, [], ◌∷◌, ◌++◌, ◌⊎◌, inl, inr, arith, refl, sym, ◌∙◌, ap, subst, Bool, true, false, not, ◌&&◌, ◌||◌}
+use Rattle.std.proofs.Common.{◌≡◌, ℕ, zero, suc, List, [], ◌∷◌, ◌++◌, inl, inr, refl, sym, ◌∙◌, ap, subst, Bool, true, false, not, ◌&&◌, ◌||◌}
 use Rattle.std.specs.Prelude.{Option, Some, None, slice_get}
 use Rattle.std.proofs.Math.Dec.{eqb}
 use Rattle.std.proofs.lemmas.Bool.{eq-eqb, eqb-true, and_parts, or_cases, or_left, or_right, false≢true}
@@ -96,8 +96,9 @@ module _ {X : Type 0} (n : X → ℕ) where
   pub member_left : (x : X) (xs ys : List X) → member n x xs ≡ true → member n x (xs ++ ys) ≡ true
   member_left x [] ys t = absurd (false≢true t)
   member_left x (y ∷ xs) ys t = elim (or_cases (eqb (n x) (n y)) (member n x xs) t) [
-    inl a ↦ or_left (eqb (n x) (n y)) (member n x (xs ++ ys)) a
-    | inr b ↦ or_right (eqb (n x) (n y)) (member n x (xs ++ ys)) (member_left x xs ys b) ]
+    | inl a ↦ or_left (eqb (n x) (n y)) (member n x (xs ++ ys)) a
+    | inr b ↦ or_right (eqb (n x) (n y)) (member n x (xs ++ ys)) (member_left x xs ys b)
+  ]
 
   pub member_right : (x : X) (xs ys : List X) → member n x ys ≡ true → member n x (xs ++ ys) ≡ true
   member_right x [] ys t = t
@@ -107,8 +108,9 @@ module _ {X : Type 0} (n : X → ℕ) where
     pub member_has : (x : X) (xs : List X) → member n x xs ≡ true → Has xs x
     member_has x [] t = absurd (false≢true t)
     member_has x (y ∷ ys) t = elim (or_cases (eqb (n x) (n y)) (member n x ys) t) [
-      inl a ↦ (0, ap Some (sym (inj x y (eqb-true (n x) (n y) a))))
-      | inr b ↦ (let m = member_has x ys b in (suc m.0, m.1)) ]
+      | inl a ↦ (0, ap Some (sym (inj x y (eqb-true (n x) (n y) a))))
+      | inr b ↦ (let m = member_has x ys b in (suc m.0, m.1))
+    ]
 
     pub every_member : (f : X → Bool) (xs : List X) → every f xs ≡ true → (x : X) → member n x xs ≡ true → f x ≡ true
     every_member f xs t x m = every_has f xs t x (member_has x xs m)

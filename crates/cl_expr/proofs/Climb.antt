@@ -1,25 +1,23 @@
 -- The loop over what goes on from a first node, and the parser's answer.
-use Rattle.std.proofs.Common.{◌≡◌, ℕ, zero, suc, ◌+◌, ◌≤◌, ◌<◌, ◌^◌, ◌-◌, List, [], ◌∷◌, ◌++◌, ◌⊎◌, inl, inr, arith, refl, sym, ◌∙◌, ap, subst, length, max}
-use Rattle.std.specs.Prelude.{Option, Some, None, slice_get, IfSome, IfOk, Result, Ok, Err}
-use Rattle.std.proofs.lemmas.Option.{slice_get_past}
+use Rattle.std.proofs.Common.{◌≡◌, ℕ, zero, suc, ◌≤◌, ◌<◌, ◌-◌, List, [], ◌∷◌, inl, inr, arith, refl, sym, ◌∙◌, ap, subst, length}
+use Rattle.std.specs.Prelude.{Option, Some, None, IfSome, IfOk, Result, Ok, Err}
 use Rattle.cl_tree.specs.declared.class.Class.{Class}
 use Rattle.cl_tree.specs.declared.nonterminal.Nonterminal.{Nonterminal}
 use Rattle.cl_tree.specs.declared.grammar.Symbol.{Symbol}
-use Rattle.cl_tree.specs.declared.grammar.Symbol.TheVariants.{Token, Node}
+use Rattle.cl_tree.specs.declared.grammar.Symbol.TheVariants.{Node}
 use Rattle.cl_tree.specs.declared.grammar.Separator.{Separator}
-use Rattle.cl_expr.specs.declared.table.Edge.{Edge}
 use Rattle.cl_expr.specs.declared.table.Head.{Head}
 use Rattle.cl_expr.specs.declared.table.Label.{Label}
-use Rattle.cl_tree.specs.declared.tree.Tree.{Tree, Tree-F, out-Tree, roll-Tree}
+use Rattle.cl_tree.specs.declared.tree.Tree.{Tree}
 use Rattle.cl_expr.specs.declared.reader.Found.{Found}
 use Rattle.cl_tree.specs.declared.lexeme.Lexeme.{Lexeme}
 use Rattle.cl_tree.specs.declared.scope.Scope.{Scope}
-use Rattle.cl_tree.specs.Scopes.{empty, class_at, pass}
+use Rattle.cl_tree.specs.Scopes.{empty, class_at}
 use Rattle.cl_expr.proofs.Within.{class_within}
-use Rattle.cl_expr.specs.Table.{edges, name_of, turn, home, corner, kinds, openers, suffixes, ends, goes}
+use Rattle.cl_expr.specs.code.Table.{name_of, turn, home, corner, kinds, openers, suffixes, ends}
 use Rattle.cl_tree.specs.Derives.{Has, start, end, parts}
-use Rattle.cl_expr.specs.Paths.{name, node, Ended, Reads, ReadsAfter, Path, Kind, At, Whole}
-use Rattle.cl_expr.specs.Parses.{AllOf, Tall, Begins, Enters, Stops, Halts, Gives, Sound, Parses, Half, Builds, Opens, GoesOn, Continues, Steps, Spine, here, next, Climbs}
+use Rattle.cl_expr.specs.code.Paths.{name, node, Ended, ReadsAfter, Path, Kind, At, Whole}
+use Rattle.cl_expr.specs.code.Parses.{Enters, Stops, Halts, Gives, Sound, Parses, Half, Builds, Opens, GoesOn, Continues, Steps, Spine, here, next, Climbs}
 use Rattle.cl_expr.proofs.Checks.{some_is}
 use Rattle.cl_expr.proofs.Conditions.{Way, on, no_name, Cornered, cornered, left_halts, top, Reaches, reach, reach_left, one_opener, opener, suffix, Goes, one_suffix, goes_suffix}
 use Rattle.cl_expr.proofs.Heights.{kind_le, kind_tall, kind_of, kind_flat, path_enters, path_le, First, node_is}
@@ -42,7 +40,11 @@ module _ (cs : List Lexeme) (h : ℕ) (sa : Scope) (g : Nonterminal) (at : ℕ) 
   pub half_start : (s : ℕ) → Has (openers g) s → at ≤ length cs → Half cs h sa sa s [] at at 0
   half_start s has within = (let o = opener g s has in record {
     joins = λ n to rest z sv le p. subst (λ (v : ℕ). Path (At cs n) n cs v sa at to rest z sv) (sym o.0) p;
-    least = λ k a. omega arith; plain = o.1; within = within; above = omega arith; high = omega arith;
+    least = λ k a. omega arith;
+    plain = o.1;
+    within = within;
+    above = omega arith;
+    high = omega arith;
   })
 
   pub start_unnamed : (s : ℕ) → Has (openers g) s → name_of s ≡ None
@@ -64,7 +66,7 @@ module _ (cs : List Lexeme) (h : ℕ) (sa : Scope) (g : Nonterminal) (at : ℕ) 
   opens_none k token not = record {
     found = tt;
     only = λ t z w a has e halts. (let f = entered t z w a e in let same : f.class ≡ k = some_is (sym f.token ∙ token) in
-      not (home z) has (subst (Enters (home z)) same f.begins));
+        not (home z) has (subst (Enters (home z)) same f.begins));
   }
 
   pub opens_past : class_at cs sa at ≡ None → Opens cs h sa g at None
@@ -77,15 +79,15 @@ module _ (cs : List Lexeme) (h : ℕ) (sa : Scope) (g : Nonterminal) (at : ℕ) 
   opens_by k s token has enters r b = record {
     found = found r b;
     only = λ t z w a h' e halts. (
-      let f = entered t z w a e in
-      let same : f.class ≡ k = some_is (sym f.token ∙ token) in
-      let place : home z ≡ s = one_opener g (home z) s k h' (subst (Enters (home z)) same f.begins) has enters in
-      let kind = kind_of cs h z sa t w a in
-      let path : Path (At cs h) h cs s sa at (end t) (parts t) z w
-            = subst (λ (v : ℕ). Path (At cs h) h cs v sa at (end t) (parts t) z w) place (subst (λ (i : ℕ). Path (At cs h) h cs (home z) sa i (end t) (parts t) z w) e kind.1) in
-      let inner : Halts cs w s (end t) = subst (λ (v : ℕ). Halts cs w v (end t)) place halts in
-      let gives : Gives r (node (name t) at (end t) (parts t)) z w = b.only (end t) (parts t) z w (name t) path kind.0 inner in
-      subst (λ (v : Tree). Gives r v z w) (node_is t at e) gives);
+        let f = entered t z w a e in
+        let same : f.class ≡ k = some_is (sym f.token ∙ token) in
+        let place : home z ≡ s = one_opener g (home z) s k h' (subst (Enters (home z)) same f.begins) has enters in
+        let kind = kind_of cs h z sa t w a in
+        let path : Path (At cs h) h cs s sa at (end t) (parts t) z w
+        = subst (λ (v : ℕ). Path (At cs h) h cs v sa at (end t) (parts t) z w) place (subst (λ (i : ℕ). Path (At cs h) h cs (home z) sa i (end t) (parts t) z w) e kind.1) in
+        let inner : Halts cs w s (end t) = subst (λ (v : ℕ). Halts cs w v (end t)) place halts in
+        let gives : Gives r (node (name t) at (end t) (parts t)) z w = b.only (end t) (parts t) z w (name t) path kind.0 inner in
+        subst (λ (v : Tree). Gives r v z w) (node_is t at e) gives);
   }
     where
       found : (r : Option Found) → Builds cs h sa sa s [] at at r → IfSome r (λ f. Sound cs (suc h) sa f × (start f.tree ≡ at))
@@ -105,8 +107,14 @@ pub record Corner (cs : List Lexeme) (h : ℕ) (sa : Scope) (g : Nonterminal) (t
 
 continues_le : (cs : List Lexeme) (h k : ℕ) (sa : Scope) (a : Tree) (y : ℕ) (sb : Scope) (t : Tree) (z : ℕ) (w : Scope) → h ≤ k → Continues cs h sa a y sb t z w → Continues cs k sa a y sb t z w
 continues_le cs h k sa a y sb t z w le c = record {
-  cornered = c.cornered; is = c.is; takes = (c.takes.0, kind_le cs h k y sa a sb le c.takes.1); from = c.from; rest = c.rest; parts_are = c.parts_are;
-  path = path_le cs h k le c.rest c.cornered.next sb (end a) (end t) z w c.path; ended = c.ended;
+  cornered = c.cornered;
+  is = c.is;
+  takes = (c.takes.0, kind_le cs h k y sa a sb le c.takes.1);
+  from = c.from;
+  rest = c.rest;
+  parts_are = c.parts_are;
+  path = path_le cs h k le c.rest c.cornered.next sb (end a) (end t) z w c.path;
+  ended = c.ended;
 }
 
 spine_le : (cs : List Lexeme) (h k : ℕ) (sa : Scope) (g : Nonterminal) {a : Tree} {y : ℕ} {sb : Scope} {t : Tree} {z : ℕ} {w : Scope} → h ≤ k → Spine cs h sa g a y sb t z w → Spine cs k sa g a y sb t z w
@@ -144,22 +152,30 @@ headed cs h sa t z w c is a = let k = kind_of cs h z sa t w a in go (parts t) re
         let facts = cornered (home z) c is in
         let edge = facts.edge path.0 path.3 in
         let reads : ReadsAfter (At cs h) h cs None (Node c.goal) path.1 sa (start t) p path.2
-              = subst (λ (b : Option Separator). ReadsAfter (At cs h) h cs b (Node c.goal) path.1 sa (start t) p path.2) edge.2
-                  (subst (λ (s : Symbol). ReadsAfter (At cs h) h cs path.0.before s path.1 sa (start t) p path.2) edge.0 path.4) in
+        = subst (λ (b : Option Separator). ReadsAfter (At cs h) h cs b (Node c.goal) path.1 sa (start t) p path.2) edge.2
+        (subst (λ (s : Symbol). ReadsAfter (At cs h) h cs path.0.before s path.1 sa (start t) p path.2) edge.0 path.4) in
         let place : turn path.0.next path.1 ≡ c.next = ap (λ (v : ℕ). turn v path.1) edge.1 ∙ facts.turn path.1 in
         record {
-          left = p; place = path.1; state = path.2;
+          left = p;
+          place = path.1;
+          state = path.2;
           continues = record {
-            cornered = c; is = is; takes = reads.0; from = reads.1; rest = ps; parts_are = same;
-            path = subst (λ (v : ℕ). Path (At cs h) h cs v path.2 (end p) (end t) ps z w) place path.5; ended = ended;
+            cornered = c;
+            is = is;
+            takes = reads.0;
+            from = reads.1;
+            rest = ps;
+            parts_are = same;
+            path = subst (λ (v : ℕ). Path (At cs h) h cs v path.2 (end p) (end t) ps z w) place path.5;
+            ended = ended;
           };
         }
 
 left_halts_at : (cs : List Lexeme) (h : ℕ) (sa : Scope) (a : Tree) (y : ℕ) (sb : Scope) (t : Tree) (z : ℕ) (w : Scope) → Continues cs h sa a y sb t z w → Halts cs sb (home y) (end a)
 left_halts_at cs h sa a y sb t z w c = λ k token ends. (
-  let f = continued cs h sa a y sb t z w c in
-  let same : f.class ≡ k = some_is (sym f.token ∙ token) in
-  left_halts (home z) c.cornered y k c.is c.takes.0 (subst (Enters c.cornered.next) same f.begins) ends)
+    let f = continued cs h sa a y sb t z w c in
+    let same : f.class ≡ k = some_is (sym f.token ∙ token) in
+    left_halts (home z) c.cornered y k c.is c.takes.0 (subst (Enters c.cornered.next) same f.begins) ends)
 
 pub corner_of : (cs : List Lexeme) (h : ℕ) (sa : Scope) (g : Nonterminal) (t : Tree) (z : ℕ) (w : Scope) → Kind cs (suc h) z sa t w → Reaches g (home z) → Halts cs w (home z) (end t) → Corner cs h sa g t z w
 corner_of cs h sa g t z w a (inl o) s = record { first = t; place = z; state = w; kind = a; opener = o; from = refl; halts = s; spine = here }
@@ -172,10 +188,15 @@ corner_of cs (suc h) sa g t z w a (inr x) s =
     let d = headed cs (suc h) sa t z w c.0 c.1 a in
     let n = d.continues in
     let below : Corner cs h sa g d.left d.place d.state = corner_of cs h sa g d.left d.place d.state n.takes.1
-          (reach_left g (home z) n.cornered d.place x n.is n.takes.0) (left_halts_at cs (suc h) sa d.left d.place d.state t z w n) in
+    (reach_left g (home z) n.cornered d.place x n.is n.takes.0) (left_halts_at cs (suc h) sa d.left d.place d.state t z w n) in
     record {
-      first = below.first; place = below.place; state = below.state; kind = kind_le cs (suc h) (suc (suc h)) below.place sa below.first below.state (omega arith) below.kind;
-      opener = below.opener; from = below.from ∙ n.from; halts = below.halts;
+      first = below.first;
+      place = below.place;
+      state = below.state;
+      kind = kind_le cs (suc h) (suc (suc h)) below.place sa below.first below.state (omega arith) below.kind;
+      opener = below.opener;
+      from = below.from ∙ n.from;
+      halts = below.halts;
       spine = spine_up cs (suc h) sa g (spine_le cs h (suc h) sa g (omega arith) below.spine) x n s;
     }
 
@@ -211,7 +232,7 @@ module _ (cs : List Lexeme) (h : ℕ) (sa : Scope) (g : Nonterminal) (first left
 
   moved : (a : Tree) (y : ℕ) (sb : Scope) (p : Tree) (x : ℕ) (sx : Scope) → Same a y sb → Continues cs h sa a y sb p x sx → Continues cs h sa left.tree left.place left.scope p x sx
   moved a y sb p x sx e n = subst (λ (v : Tree). Continues cs h sa v left.place left.scope p x sx) (sym e.0)
-    (subst (λ (v : ℕ). Continues cs h sa a v left.scope p x sx) (sym e.1) (subst (λ (v : Scope). Continues cs h sa a y v p x sx) (sym e.2) n))
+      (subst (λ (v : ℕ). Continues cs h sa a v left.scope p x sx) (sym e.1) (subst (λ (v : Scope). Continues cs h sa a y v p x sx) (sym e.2) n))
 
   module _ (s : ℕ) (has : Has (suffixes g) s) (on : GoesOn cs left.scope s left.place (end left.tree)) where
     -- the next node of a whole tree
@@ -227,13 +248,18 @@ module _ (cs : List Lexeme) (h : ℕ) (sa : Scope) (g : Nonterminal) (first left
     up_of : {a : Tree} {y : ℕ} {sb : Scope} (t : Tree) (z : ℕ) (w : Scope) → Spine cs h sa g a y sb t z w → Same a y sb → Has (kinds g) z → Stops cs w g (end t) → Up t z w
     up_of {a = a} {y = y} {sb = sb} t z w here e kind stops =
         absurd (stops on.class (subst (λ (v : Tree). class_at cs w (end v) ≡ Some on.class) e.0 (subst (λ (v : Scope). class_at cs v (end left.tree) ≡ Some on.class) e.2 on.token))
-          (goes_suffix g s y on.class has (subst (λ (v : ℕ). Goes v on.class s) e.1 (to_goes cs left.scope s left.place (end left.tree) on.class on.token on)) kind))
+        (goes_suffix g s y on.class has (subst (λ (v : ℕ). Goes v on.class s) e.1 (to_goes cs left.scope s left.place (end left.tree) on.class on.token on)) kind))
     up_of {a = a} {y = y} {sb = sb} t z w (next {p = p} {x = x} {sx = sx} has' n halts more) e kind stops =
         let n' : Continues cs h sa left.tree left.place left.scope p x sx = moved a y sb p x sx e n in
         record {
-          tree = p; place = x; state = sx; continues = n'; halts = halts; spine = more;
+          tree = p;
+          place = x;
+          state = sx;
+          continues = n';
+          halts = halts;
+          spine = more;
           home_is = one_suffix g (home x) s left.place on.class has' (continues_goes cs h sa left.tree left.place left.scope p x sx on.class on.token n') has
-            (to_goes cs left.scope s left.place (end left.tree) on.class on.token on);
+              (to_goes cs left.scope s left.place (end left.tree) on.class on.token on);
         }
 
     up : (t : Tree) (z : ℕ) (w : Scope) → Spine cs h sa g first.tree first.place first.scope t z w → Has (kinds g) z → Stops cs w g (end t) → Up t z w
@@ -247,11 +273,12 @@ module _ (cs : List Lexeme) (h : ℕ) (sa : Scope) (g : Nonterminal) (first left
 
     pub climbs_on : (new : Found) → Steps cs h sa s left (Some new) → Climbing cs h sa g first new
     climbs_on new st = record {
-      sound = st.found.0; from = st.found.1 ∙ c.from;
+      sound = st.found.0;
+      from = st.found.1 ∙ c.from;
       goes_on = λ t z w x kind stops. (
-        let u = up t z w x kind stops in
-        let same = st.only u.tree u.place u.state u.continues u.home_is (subst (λ (v : ℕ). Halts cs u.state v (end u.tree)) u.home_is u.halts) in
-        subst (λ (v : Tree). Spine cs h sa g v new.place new.scope t z w) (sym same.0)
+          let u = up t z w x kind stops in
+          let same = st.only u.tree u.place u.state u.continues u.home_is (subst (λ (v : ℕ). Halts cs u.state v (end u.tree)) u.home_is u.halts) in
+          subst (λ (v : Tree). Spine cs h sa g v new.place new.scope t z w) (sym same.0)
           (subst (λ (v : ℕ). Spine cs h sa g u.tree v new.scope t z w) (sym same.1) (subst (λ (v : Scope). Spine cs h sa g u.tree u.place v t z w) (sym same.2) u.spine)));
     }
 
@@ -284,17 +311,20 @@ module _ (cs : List Lexeme) (h : ℕ) (sa : Scope) (s : ℕ) (left : Found) (sou
     pub half_step : left.height ≤ h → Half cs h sa left.scope c.next (left.tree ∷ []) (start left.tree) (end left.tree) left.height
     half_step low = record {
       joins = λ n to rest z sv le p. (
-        let e = facts.some_edge in
-        let reads : ReadsAfter (At cs n) n cs None (Node c.goal) left.place sa (start left.tree) left.tree left.scope = ((takes, kind_le cs left.height n left.place sa left.tree left.scope le sound.kind), refl) in
-        let place : turn e.0.next left.place ≡ c.next = ap (λ (v : ℕ). turn v left.place) e.3 ∙ facts.turn left.place in
-        let reads' : ReadsAfter (At cs n) n cs e.0.before e.0.symbol left.place sa (start left.tree) left.tree left.scope
-              = subst (λ (b : Option Separator). ReadsAfter (At cs n) n cs b e.0.symbol left.place sa (start left.tree) left.tree left.scope) (sym e.4)
-                  (subst (λ (v : Symbol). ReadsAfter (At cs n) n cs None v left.place sa (start left.tree) left.tree left.scope) (sym e.2) reads) in
-        let path : Path (At cs n) n cs s sa (start left.tree) to (left.tree ∷ rest) z sv
-              = (e.0, left.place, left.scope, e.1, reads', subst (λ (v : ℕ). Path (At cs n) n cs v left.scope (end left.tree) to rest z sv) (sym place) p) in
-        subst (λ (v : ℕ). Path (At cs n) n cs v sa (start left.tree) to (left.tree ∷ rest) z sv) (sym (facts.home ∙ home_is)) path);
+          let e = facts.some_edge in
+          let reads : ReadsAfter (At cs n) n cs None (Node c.goal) left.place sa (start left.tree) left.tree left.scope = ((takes, kind_le cs left.height n left.place sa left.tree left.scope le sound.kind), refl) in
+          let place : turn e.0.next left.place ≡ c.next = ap (λ (v : ℕ). turn v left.place) e.3 ∙ facts.turn left.place in
+          let reads' : ReadsAfter (At cs n) n cs e.0.before e.0.symbol left.place sa (start left.tree) left.tree left.scope
+          = subst (λ (b : Option Separator). ReadsAfter (At cs n) n cs b e.0.symbol left.place sa (start left.tree) left.tree left.scope) (sym e.4)
+          (subst (λ (v : Symbol). ReadsAfter (At cs n) n cs None v left.place sa (start left.tree) left.tree left.scope) (sym e.2) reads) in
+          let path : Path (At cs n) n cs s sa (start left.tree) to (left.tree ∷ rest) z sv
+          = (e.0, left.place, left.scope, e.1, reads', subst (λ (v : ℕ). Path (At cs n) n cs v left.scope (end left.tree) to rest z sv) (sym place) p) in
+          subst (λ (v : ℕ). Path (At cs n) n cs v sa (start left.tree) to (left.tree ∷ rest) z sv) (sym (facts.home ∙ home_is)) path);
       least = λ k a. sound.least k a.0;
-      plain = facts.plain; within = sound.within; above = omega (arith, sound.grows); high = low;
+      plain = facts.plain;
+      within = sound.within;
+      above = omega (arith, sound.grows);
+      high = low;
     }
 
     pub step_unnamed : name_of c.next ≡ None
@@ -304,14 +334,14 @@ module _ (cs : List Lexeme) (h : ℕ) (sa : Scope) (s : ℕ) (left : Found) (sou
     steps_by r b = record {
       found = found r b;
       only = λ t z w n home_of halts. (
-        let same : n.cornered ≡ c = some_is (sym n.is ∙ ap corner home_of ∙ is) in
-        let path : Path (At cs h) h cs c.next left.scope (end left.tree) (end t) n.rest z w = subst (λ (v : Head). Path (At cs h) h cs v.next left.scope (end left.tree) (end t) n.rest z w) same n.path in
-        let inner : Halts cs w s (end t) = halts in
-        let halts' : Halts cs w c.next (end t) = λ k token has. inner k token (next_ends k has) in
-        let gives : Gives r (node (name t) (start left.tree) (end t) (left.tree ∷ n.rest)) z w = b.only (end t) n.rest z w (name t) path n.ended halts' in
-        let whole : node (name t) (start left.tree) (end t) (left.tree ∷ n.rest) ≡ t
-              = ap (λ (v : List Tree). node (name t) (start left.tree) (end t) v) (sym n.parts_are) ∙ node_is t (start left.tree) (sym n.from) in
-        subst (λ (v : Tree). Gives r v z w) whole gives);
+          let same : n.cornered ≡ c = some_is (sym n.is ∙ ap corner home_of ∙ is) in
+          let path : Path (At cs h) h cs c.next left.scope (end left.tree) (end t) n.rest z w = subst (λ (v : Head). Path (At cs h) h cs v.next left.scope (end left.tree) (end t) n.rest z w) same n.path in
+          let inner : Halts cs w s (end t) = halts in
+          let halts' : Halts cs w c.next (end t) = λ k token has. inner k token (next_ends k has) in
+          let gives : Gives r (node (name t) (start left.tree) (end t) (left.tree ∷ n.rest)) z w = b.only (end t) n.rest z w (name t) path n.ended halts' in
+          let whole : node (name t) (start left.tree) (end t) (left.tree ∷ n.rest) ≡ t
+          = ap (λ (v : List Tree). node (name t) (start left.tree) (end t) v) (sym n.parts_are) ∙ node_is t (start left.tree) (sym n.from) in
+          subst (λ (v : Tree). Gives r v z w) whole gives);
     }
       where
         found : (r : Option Found) → Builds cs h sa left.scope c.next (left.tree ∷ []) (start left.tree) (end left.tree) r
@@ -334,8 +364,8 @@ module _ (cs : List Lexeme) (h : ℕ) (sa : Scope) (g : Nonterminal) (at : ℕ) 
   nothing_opens o = record {
     found = tt;
     only = λ t z w a e stops. (
-      let c = corner_of cs h sa g t z w a.1 (reach g z a.0) (halts_top t z w a.0 stops) in
-      o.only c.first c.place c.state c.kind c.opener (c.from ∙ e) c.halts);
+        let c = corner_of cs h sa g t z w a.1 (reach g z a.0) (halts_top t z w a.0 stops) in
+        o.only c.first c.place c.state c.kind c.opener (c.from ∙ e) c.halts);
   }
 
   module _ (first : Found) (o : Opens cs h sa g at (Some first)) where
@@ -344,7 +374,7 @@ module _ (cs : List Lexeme) (h : ℕ) (sa : Scope) (g : Nonterminal) (at : ℕ) 
         let c = corner_of cs h sa g t z w a.1 (reach g z a.0) (halts_top t z w a.0 stops) in
         let same = o.only c.first c.place c.state c.kind c.opener (c.from ∙ e) c.halts in
         x.only t z w (subst (λ (v : Tree). Spine cs h sa g v first.place first.scope t z w) (sym same.0)
-          (subst (λ (v : ℕ). Spine cs h sa g c.first v first.scope t z w) (sym same.1) (subst (λ (v : Scope). Spine cs h sa g c.first c.place v t z w) (sym same.2) c.spine))) a.0 stops
+        (subst (λ (v : ℕ). Spine cs h sa g c.first v first.scope t z w) (sym same.1) (subst (λ (v : Scope). Spine cs h sa g c.first c.place v t z w) (sym same.2) c.spine))) a.0 stops
 
     pub parses_none : Climbs cs h sa g first None → Parses cs (suc h) sa g at None
     parses_none x = record { found = tt; only = λ t z w a e stops. climbed None x t z w a e stops }

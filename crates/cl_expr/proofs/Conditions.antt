@@ -1,5 +1,5 @@
 -- What the tables have to fulfil, checked over all of their rows.
-use Rattle.std.proofs.Common.{◌≡◌, ℕ, zero, suc, ◌+◌, ◌≤◌, ◌<◌, List, [], ◌∷◌, ◌++◌, ◌⊎◌, inl, inr, arith, refl, sym, ◌∙◌, ap, subst, Bool, true, false, not, ◌&&◌, ◌||◌}
+use Rattle.std.proofs.Common.{◌≡◌, ℕ, zero, suc, ◌+◌, List, [], ◌∷◌, ◌++◌, ◌⊎◌, inl, inr, arith, refl, sym, ◌∙◌, ap, subst, Bool, true, false, not, ◌&&◌, ◌||◌}
 use Rattle.std.specs.Prelude.{Option, Some, None, slice_get}
 use Rattle.std.proofs.Math.Dec.{eqb}
 use Rattle.std.proofs.lemmas.Bool.{eqb-true, and_parts, or_cases, false≢true}
@@ -12,12 +12,12 @@ use Rattle.cl_expr.specs.declared.table.Edge.{Edge}
 use Rattle.cl_expr.specs.declared.table.Head.{Head}
 use Rattle.cl_expr.specs.declared.table.Ways.{Ways}
 use Rattle.cl_expr.specs.declared.table.Label.{Label}
-use Rattle.cl_expr.specs.Table.{Place, places, nowhere, place, goal, goals, number, edges, name_of, bars, is_named, turning, turned, turn, home, corner, kinds, openers, suffixes, firsts, ends, goes}
+use Rattle.cl_expr.specs.code.Table.{Place, places, nowhere, place, goal, goals, number, edges, name_of, bars, is_named, turning, turned, turn, home, corner, kinds, openers, suffixes, firsts, ends, goes}
 use Rattle.cl_tree.specs.Derives.{Has}
-use Rattle.cl_expr.specs.Parses.{BeginsSymbol, Begins, Enters}
+use Rattle.cl_expr.specs.code.Parses.{BeginsSymbol, Begins, Enters}
 use Rattle.cl_tree.specs.Grammar.{takes}
 use Rattle.cl_expr.proofs.All.{all_goals, numbered_goal, class_number, same_class_is, same_goal_is}
-use Rattle.cl_expr.proofs.Checks.{every, some, pairwise, member, when, is_some, on_some, when_use, not_use, some_true, none_is, none_true, none_not, on_some_use, some_is, every_has, every_at, some_at, pairwise_one, has_member, member_left, member_right, member_has, every_member}
+use Rattle.cl_expr.proofs.Checks.{every, some, pairwise, member, when, is_some, on_some, when_use, not_use, some_true, none_is, none_true, none_not, on_some_use, some_is, every_has, some_at, pairwise_one, has_member, member_left, member_right, member_has, every_member}
 
 abbrev among : Class → List Class → Bool
 among k ks = member class_number k ks
@@ -294,16 +294,31 @@ record PlaceFacts (q : ℕ) : Type 0 where
 
 place_facts : (q : ℕ) → PlaceFacts q
 place_facts q = elim (either q) [
-    inl none ↦ (let l = looks q none in record {
-      apart = rw l.edges_none refl; more = rw l.label_none refl; on = rw l.edges_none refl; held = rw l.edges_none refl; shut = rw (l.corner_none, l.edges_none) refl;
-      homes = rw l.edges_none refl; plain = rw l.edges_none refl; unnamed = rw (l.home_first, first_unnamed) refl; corner = rw l.corner_none refl; left = rw l.corner_none refl;
-    })
-    | inr h ↦ record {
-      apart = every_has c_apart (numbers 0 places) places_apart q h; more = every_has c_more (numbers 0 places) places_more q h; on = every_has c_on (numbers 0 places) places_on q h;
-      held = every_has c_held (numbers 0 places) places_held q h; shut = every_has c_shut (numbers 0 places) places_shut q h; homes = every_has c_homes (numbers 0 places) places_homes q h;
-      plain = every_has c_plain (numbers 0 places) places_plain q h; unnamed = every_has c_unnamed (numbers 0 places) places_unnamed q h; corner = every_has c_corner (numbers 0 places) places_corner q h;
-      left = every_has c_left (numbers 0 places) places_left q h;
-    } ]
+  | inl none ↦ (let l = looks q none in record {
+    apart = rw l.edges_none refl;
+    more = rw l.label_none refl;
+    on = rw l.edges_none refl;
+    held = rw l.edges_none refl;
+    shut = rw (l.corner_none, l.edges_none) refl;
+    homes = rw l.edges_none refl;
+    plain = rw l.edges_none refl;
+    unnamed = rw (l.home_first, first_unnamed) refl;
+    corner = rw l.corner_none refl;
+    left = rw l.corner_none refl;
+  })
+  | inr h ↦ record {
+    apart = every_has c_apart (numbers 0 places) places_apart q h;
+    more = every_has c_more (numbers 0 places) places_more q h;
+    on = every_has c_on (numbers 0 places) places_on q h;
+    held = every_has c_held (numbers 0 places) places_held q h;
+    shut = every_has c_shut (numbers 0 places) places_shut q h;
+    homes = every_has c_homes (numbers 0 places) places_homes q h;
+    plain = every_has c_plain (numbers 0 places) places_plain q h;
+    unnamed = every_has c_unnamed (numbers 0 places) places_unnamed q h;
+    corner = every_has c_corner (numbers 0 places) places_corner q h;
+    left = every_has c_left (numbers 0 places) places_left q h;
+  }
+]
 
 record GoalFacts (g : Nonterminal) : Type 0 where
   top : c_top g ≡ true
@@ -332,15 +347,17 @@ goal_facts g =
 pub one_edge : (q : ℕ) (e d : Edge) (k : Class) → Has (edges q) e → Begins e.before e.symbol k → Has (edges q) d → Begins d.before d.symbol k → e ≡ d
 one_edge q e d k he be hd bd =
     pairwise_one (λ x y. apart (beginners x.before x.symbol) (beginners y.before y.symbol)) (λ x. Begins x.before x.symbol k)
-      (λ x y t a b. apart_use (beginners x.before x.symbol) (beginners y.before y.symbol) k t (begins_among x.before x.symbol k a) (begins_among y.before y.symbol k b))
-      (edges q) (place_facts q).apart he.0 hd.0 e d he.1 hd.1 be bd
+    (λ x y t a b. apart_use (beginners x.before x.symbol) (beginners y.before y.symbol) k t (begins_among x.before x.symbol k a) (begins_among y.before y.symbol k b))
+    (edges q) (place_facts q).apart he.0 hd.0 e d he.1 hd.1 be bd
 
 -- a token that goes on where a production may end is known to
 pub more : (q : ℕ) (k : Class) (n : Label) → Enters q k → name_of q ≡ Some n → (Has (bars q) k → ⊥) → Has (ends q) k
 more q k n m e b =
     let t = when_use (is_some (name_of q)) _ (place_facts q).more (some_true (name_of q) n e) in
     elim (or_cases (among k (bars q)) (among k (ends q)) (every_member class_number same_class_is (λ v. among v (bars q) || among v (ends q)) (entering q) t k (enters_among q k m))) [
-      inl x ↦ absurd (b (among_has k (bars q) x)) | inr y ↦ among_has k (ends q) y ]
+      | inl x ↦ absurd (b (among_has k (bars q) x))
+      | inr y ↦ among_has k (ends q) y
+    ]
 
 pub on : (q : ℕ) (e : Edge) (y : ℕ) (k : Class) → Has (edges q) e → Way e.symbol y → Has (ends (turn e.next y)) k → Has (ends q) k
 on q e y k h w has =
@@ -353,9 +370,11 @@ held q e g y k n h s w m b has =
     let f = λ (d : Edge) (v : ℕ). when (is_some (name_of v)) (every (λ u. among u (bars v) || among u (ends q)) (goes_of d.symbol)) in
     let t = when_use (is_some (name_of (turn e.next y))) _ (steps_use f q (place_facts q).held e y h) (some_true (name_of (turn e.next y)) n m) in
     let t' : every (λ u. among u (bars (turn e.next y)) || among u (ends q)) (goes g) ≡ true
-          = subst (λ (x : Symbol). every (λ u. among u (bars (turn e.next y)) || among u (ends q)) (goes_of x) ≡ true) s t in
+    = subst (λ (x : Symbol). every (λ u. among u (bars (turn e.next y)) || among u (ends q)) (goes_of x) ≡ true) s t in
     elim (or_cases (among k (bars (turn e.next y))) (among k (ends q)) (every_has (λ u. among u (bars (turn e.next y)) || among u (ends q)) (goes g) t' k has)) [
-      inl x ↦ absurd (b (among_has k (bars (turn e.next y)) x)) | inr z ↦ among_has k (ends q) z ]
+      | inl x ↦ absurd (b (among_has k (bars (turn e.next y)) x))
+      | inr z ↦ among_has k (ends q) z
+    ]
 
 -- the token after a part within a production doesn't go on from that part
 pub shut : (q : ℕ) (e : Edge) (g : Nonterminal) (y : ℕ) (k : Class) → corner q ≡ None → Has (edges q) e → e.symbol ≡ Node g → Has (kinds g) y
@@ -399,7 +418,7 @@ lone_edge c (d ∷ []) t zero e h =
     let r = and_parts (eqb (place_number d.next) (place_number c.next)) (not (is_some d.before)) p.1 in
     let same : d ≡ e = some_is h in
     subst (λ (x : Edge). (x.symbol ≡ Node c.goal) × (x.next ≡ c.next) × (x.before ≡ None)) same
-      (symbol_goal d.symbol c.goal p.0, same_place_is d.next c.next (eqb-true (place_number d.next) (place_number c.next) r.0), none_is d.before r.1)
+    (symbol_goal d.symbol c.goal p.0, same_place_is d.next c.next (eqb-true (place_number d.next) (place_number c.next) r.0), none_is d.before r.1)
 lone_edge c (d ∷ []) t (suc i) e h = absurd (cc)
 lone_edge c (d ∷ f ∷ es) t i e h = absurd (false≢true t)
 
@@ -425,7 +444,8 @@ cornered s c e =
       edge = λ x h. lone_edge c (edges s) a.0 h.0 x h.1;
       some_edge = (let o = lone_edge c (edges s) a.0 l.1.0 l.0 l.1.1 in (l.0, l.1, o.0, o.1, o.2));
       turn = λ y. turn_plain c.next y (none_is (turning c.next) b.0);
-      unnamed = none_is (name_of c.next) d.0; plain = none_is (corner c.next) g.0;
+      unnamed = none_is (name_of c.next) d.0;
+      plain = none_is (corner c.next) g.0;
       home = same_place_is (home c.next) (home s) (eqb-true (place_number (home c.next)) (place_number (home s)) g.1);
     }
 
@@ -450,7 +470,9 @@ Reaches g s = Has (openers g) s ⊎ Has (suffixes g) s
 
 reaches_use : (g : Nonterminal) (s : ℕ) → reaches g s ≡ true → Reaches g s
 reaches_use g s t = elim (or_cases (kind_in s (openers g)) (kind_in s (suffixes g)) t) [
-  inl a ↦ inl (member_has place_number same_place_is s (openers g) a) | inr b ↦ inr (member_has place_number same_place_is s (suffixes g) b) ]
+  | inl a ↦ inl (member_has place_number same_place_is s (openers g) a)
+  | inr b ↦ inr (member_has place_number same_place_is s (suffixes g) b)
+]
 
 pub reach : (g : Nonterminal) (z : ℕ) → Has (kinds g) z → Reaches g (home z)
 reach g z h = reaches_use g (home z) (every_has (λ v. reaches g (home v)) (kinds g) (goal_facts g).reach z h)
@@ -464,8 +486,8 @@ reach_left g s c z h e w =
 pub one_opener : (g : Nonterminal) (s d : ℕ) (k : Class) → Has (openers g) s → Enters s k → Has (openers g) d → Enters d k → s ≡ d
 one_opener g s d k hs ns hd nd =
     pairwise_one (λ x y. apart (entering x) (entering y)) (λ x. Enters x k)
-      (λ x y t a b. apart_use (entering x) (entering y) k t (enters_among x k a) (enters_among y k b))
-      (openers g) (goal_facts g).openers hs.0 hd.0 s d hs.1 hd.1 ns nd
+    (λ x y t a b. apart_use (entering x) (entering y) k t (enters_among x k a) (enters_among y k b))
+    (openers g) (goal_facts g).openers hs.0 hd.0 s d hs.1 hd.1 ns nd
 
 pub opener : (g : Nonterminal) (s : ℕ) → Has (openers g) s → (home s ≡ s) × (corner s ≡ None)
 opener g s h =

@@ -1,22 +1,20 @@
 -- Heights, and the token with which a tree begins.
-use Rattle.std.proofs.Common.{◌≡◌, ℕ, zero, suc, ◌+◌, ◌≤◌, ◌<◌, List, [], ◌∷◌, ◌++◌, ◌⊎◌, inl, inr, arith, refl, sym, ◌∙◌, ap, subst, length}
-use Rattle.std.specs.Prelude.{Option, Some, None, slice_get}
+use Rattle.std.proofs.Common.{◌≡◌, ℕ, zero, suc, ◌+◌, ◌≤◌, List, [], ◌∷◌, arith, refl, sym, ◌∙◌, ap, subst}
+use Rattle.std.specs.Prelude.{Option, Some, None}
 use Rattle.cl_tree.specs.declared.class.Class.{Class}
 use Rattle.cl_tree.specs.declared.nonterminal.Nonterminal.{Nonterminal}
 use Rattle.cl_tree.specs.declared.grammar.Symbol.{Symbol}
 use Rattle.cl_tree.specs.declared.grammar.Symbol.TheVariants.{Token, Node}
 use Rattle.cl_tree.specs.declared.grammar.Separator.{Separator}
-use Rattle.cl_expr.specs.declared.table.Edge.{Edge}
 use Rattle.cl_expr.specs.declared.table.Label.{Label}
-use Rattle.cl_tree.specs.declared.tree.Tree.{Tree, Tree-F, out-Tree, roll-Tree, out-roll-Tree, roll-out-Tree}
+use Rattle.cl_tree.specs.declared.tree.Tree.{Tree, Tree-F, out-roll-Tree, roll-out-Tree}
 use Rattle.cl_tree.specs.declared.lexeme.Lexeme.{Lexeme}
 use Rattle.cl_tree.specs.declared.scope.Scope.{Scope}
 use Rattle.cl_tree.specs.Scopes.{class_at, pass}
-use Rattle.cl_tree.specs.Grammar.{takes}
-use Rattle.cl_expr.specs.Table.{edges, name_of, bars, turn, home, kinds, firsts}
+use Rattle.cl_expr.specs.code.Table.{name_of, turn, home, kinds, firsts}
 use Rattle.cl_tree.specs.Derives.{Has, start, end, parts, leaf}
-use Rattle.cl_expr.specs.Paths.{name, node, Ended, Reads, ReadsAfter, Path, Kind, At}
-use Rattle.cl_expr.specs.Parses.{AllOf, Tall, BeginsSymbol, Begins, Enters}
+use Rattle.cl_expr.specs.code.Paths.{name, node, Ended, Reads, ReadsAfter, Path, Kind, At}
+use Rattle.cl_expr.specs.code.Parses.{AllOf, Tall, BeginsSymbol, Begins, Enters}
 use Rattle.cl_expr.proofs.Conditions.{no_name, firsts_have}
 
 module _ (cs : List Lexeme) (D E : Nonterminal → ℕ → Scope → Tree → Scope → Type 0) (h k : ℕ) (le : h ≤ k) (f : (g : Nonterminal) (y : ℕ) (sa : Scope) (p : Tree) (sw : Scope) → D g y sa p sw → E g y sa p sw) where

@@ -1,6 +1,6 @@
 -- No list of tokens has two trees of one nonterminal, from one state.
-use Rattle.std.proofs.Common.{◌≡◌, ℕ, zero, suc, ◌+◌, ◌≤◌, ◌<◌, List, [], ◌∷◌, ◌++◌, ◌⊎◌, inl, inr, arith, refl, sym, ◌∙◌, ap, subst, length}
-use Rattle.std.specs.Prelude.{Option, Some, None, slice_get}
+use Rattle.std.proofs.Common.{◌≡◌, ℕ, zero, suc, ◌+◌, List, [], ◌∷◌, arith, refl, sym, ◌∙◌, ap, subst}
+use Rattle.std.specs.Prelude.{Option, Some, None}
 use Rattle.cl_tree.specs.declared.class.Class.{Class}
 use Rattle.cl_tree.specs.declared.nonterminal.Nonterminal.{Nonterminal}
 use Rattle.cl_tree.specs.declared.grammar.Symbol.{Symbol}
@@ -9,20 +9,20 @@ use Rattle.cl_tree.specs.declared.grammar.Separator.{Separator}
 use Rattle.cl_expr.specs.declared.table.Edge.{Edge}
 use Rattle.cl_expr.specs.declared.table.Head.{Head}
 use Rattle.cl_expr.specs.declared.table.Label.{Label}
-use Rattle.cl_tree.specs.declared.tree.Tree.{Tree, Tree-F, out-Tree, roll-Tree}
+use Rattle.cl_tree.specs.declared.tree.Tree.{Tree}
 use Rattle.cl_tree.specs.declared.lexeme.Lexeme.{Lexeme}
 use Rattle.cl_tree.specs.declared.scope.Scope.{Scope}
 use Rattle.cl_tree.specs.Scopes.{empty, class_at, pass}
 use Rattle.cl_expr.proofs.Within.{class_within}
-use Rattle.cl_expr.specs.Table.{edges, name_of, bars, turn, home, corner, kinds, openers, suffixes, ends, goes}
+use Rattle.cl_expr.specs.code.Table.{edges, name_of, bars, turn, home, corner, kinds, openers, suffixes, ends}
 use Rattle.cl_tree.specs.Derives.{Has, start, end, parts}
-use Rattle.cl_expr.specs.Paths.{name, node, Ended, Reads, ReadsAfter, Path, Kind, At, Whole}
-use Rattle.cl_expr.specs.Parses.{Begins, Enters, Stops, Halts, StopsSymbol, Continues, Spine, here, next}
+use Rattle.cl_expr.specs.code.Paths.{name, node, Ended, Reads, ReadsAfter, Path, Kind, At, Whole}
+use Rattle.cl_expr.specs.code.Parses.{Begins, Enters, Stops, Halts, StopsSymbol, Continues, Spine, here, next}
 use Rattle.cl_expr.proofs.Checks.{some_is}
-use Rattle.cl_expr.proofs.Conditions.{Way, one_edge, more, on, held, shut, plain_next, no_name, cornered, Reaches, reach, one_opener, opener, suffix, Goes, one_suffix, goes_suffix, top}
-use Rattle.cl_expr.proofs.Heights.{kind_le, kind_of, kind_flat, path_enters, reads_first, First, node_is}
+use Rattle.cl_expr.proofs.Conditions.{Way, one_edge, more, on, held, shut, plain_next, cornered, reach, one_opener, opener, one_suffix, goes_suffix, top}
+use Rattle.cl_expr.proofs.Heights.{kind_of, kind_flat, path_enters, reads_first, node_is}
 use Rattle.cl_expr.proofs.Reading.{way_of}
-use Rattle.cl_expr.proofs.Climb.{Corner, corner_of, entered, continued, continues_goes}
+use Rattle.cl_expr.proofs.Climb.{corner_of, entered, continued, continues_goes}
 
 -- two trees of a nonterminal from one place and one state are the same, also in kind and in the state after them
 abbrev One : List Lexeme → ℕ → Type 0
@@ -45,8 +45,8 @@ module _ (cs : List Lexeme) (h : ℕ) (one : One cs h) where
   stops_first q e (Token c a) plain has is y sx at to rest z sv n w p ended halts = tt
   stops_first q e (Node g) plain has is y sx at to [] z sv n w p ended halts = λ k t goes.
       halts k (at_end sx sv at to k p.0 p.2 t)
-        (held q e g y k n has is w (subst (λ (v : ℕ). name_of v ≡ Some n) (sym p.1) ended.0)
-          (λ b. ended.1 k (at_end sx sv at to k p.0 p.2 t) (subst (λ (v : ℕ). Has (bars v) k) p.1 b)) goes)
+      (held q e g y k n has is w (subst (λ (v : ℕ). name_of v ≡ Some n) (sym p.1) ended.0)
+      (λ b. ended.1 k (at_end sx sv at to k p.0 p.2 t) (subst (λ (v : ℕ). Has (bars v) k) p.1 b)) goes)
   stops_first q e (Node g) plain has is y sx at to (p2 ∷ rest) z sv n w p ended halts = λ k t goes. (
       let f = path_enters cs h (turn e.next y) sx at to p2 rest z sv p in
       let same : f.class ≡ k = some_is (sym f.token ∙ t) in
@@ -69,7 +69,7 @@ module _ (cs : List Lexeme) (h : ℕ) (one : One cs h) where
       let f = path_enters cs h q sm at to' r rs x sx b in
       let token : class_at cs sv to ≡ Some f.class = at_end sm sv at to f.class p.0 p.2 f.token in
       halts f.class token (more q f.class n f.begins (subst (λ (v : ℕ). name_of v ≡ Some n) (sym p.1) ended.0)
-        (λ bar. ended.1 f.class token (subst (λ (v : ℕ). Has (bars v) f.class) p.1 bar)))
+      (λ bar. ended.1 f.class token (subst (λ (v : ℕ). Has (bars v) f.class) p.1 bar)))
 
   one_path : (ps rs : List Tree) (q : ℕ) (sm : Scope) (at to to' : ℕ) (z x : ℕ) (sv sx : Scope) (n m : Label) → corner q ≡ None → Path (At cs h) h cs q sm at to ps z sv → Path (At cs h) h cs q sm at to' rs x sx
       → Ended cs sv z to n → Ended cs sx x to' m → Halts cs sv q to → Halts cs sx q to' → (ps ≡ rs) × (to ≡ to') × (z ≡ x) × (sv ≡ sx)
@@ -86,14 +86,14 @@ module _ (cs : List Lexeme) (h : ℕ) (one : One cs h) where
       let wa : Way a.0.symbol a.1 = way_of cs h a.0.before a.0.symbol a.1 sm at p a.2 a.4 in
       let wb : Way a.0.symbol b.1 = way_of cs h a.0.before a.0.symbol b.1 sm at r b.2 reads in
       let same = one_part a.0.before a.0.symbol a.1 b.1 sm at p r a.2 b.2 a.4 reads
-            (stops_first q a.0 a.0.symbol plain a.3 refl a.1 a.2 (end p) to ps z sv n wa a.5 ea ha)
-            (stops_first q a.0 a.0.symbol plain a.3 refl b.1 b.2 (end r) to' rs x sx m wb path eb hb) in
+      (stops_first q a.0 a.0.symbol plain a.3 refl a.1 a.2 (end p) to ps z sv n wa a.5 ea ha)
+      (stops_first q a.0 a.0.symbol plain a.3 refl b.1 b.2 (end r) to' rs x sx m wb path eb hb) in
       let path' : Path (At cs h) h cs (turn a.0.next a.1) a.2 (end p) to' rs x sx
-            = subst (λ (v : Scope). Path (At cs h) h cs (turn a.0.next a.1) v (end p) to' rs x sx) (sym same.2)
-                (subst (λ (v : Tree). Path (At cs h) h cs (turn a.0.next a.1) b.2 (end v) to' rs x sx) (sym same.0)
-                  (subst (λ (v : ℕ). Path (At cs h) h cs (turn a.0.next v) b.2 (end r) to' rs x sx) (sym same.1) path)) in
+      = subst (λ (v : Scope). Path (At cs h) h cs (turn a.0.next a.1) v (end p) to' rs x sx) (sym same.2)
+      (subst (λ (v : Tree). Path (At cs h) h cs (turn a.0.next a.1) b.2 (end v) to' rs x sx) (sym same.0)
+      (subst (λ (v : ℕ). Path (At cs h) h cs (turn a.0.next v) b.2 (end r) to' rs x sx) (sym same.1) path)) in
       let rest = one_path ps rs (turn a.0.next a.1) a.2 (end p) to to' z x sv sx n m (plain_next q a.0 a.1 a.3 wa) a.5 path' ea eb
-            (λ k token has. ha k token (on q a.0 a.1 k a.3 wa has)) (λ k token has. hb k token (on q a.0 a.1 k a.3 wa has)) in
+      (λ k token has. ha k token (on q a.0 a.1 k a.3 wa has)) (λ k token has. hb k token (on q a.0 a.1 k a.3 wa has)) in
       ((λ i. same.0 i ∷ rest.0 i), rest.1, rest.2, rest.3)
 
   same_node : (t u : Tree) → name t ≡ name u → start t ≡ start u → end t ≡ end u → parts t ≡ parts u → t ≡ u
@@ -109,9 +109,9 @@ module _ (cs : List Lexeme) (h : ℕ) (one : One cs h) where
       let ka = kind_of cs h z sa t w a in
       let kb = kind_of cs h x sa u y b in
       let pb : Path (At cs h) h cs (home z) sa (start t) (end u) (parts u) x y
-            = subst (λ (v : ℕ). Path (At cs h) h cs v sa (start t) (end u) (parts u) x y) home_is (subst (λ (i : ℕ). Path (At cs h) h cs (home x) sa i (end u) (parts u) x y) (sym e) kb.1) in
+      = subst (λ (v : ℕ). Path (At cs h) h cs v sa (start t) (end u) (parts u) x y) home_is (subst (λ (i : ℕ). Path (At cs h) h cs (home x) sa i (end u) (parts u) x y) (sym e) kb.1) in
       let same = one_path (parts t) (parts u) (home z) sa (start t) (end t) (end u) z x w y (name t) (name u) (opener g (home z) oz).1 ka.1 pb ka.0 kb.0
-            ht (subst (λ (v : ℕ). Halts cs y v (end u)) home_is hu) in
+      ht (subst (λ (v : ℕ). Halts cs y v (end u)) home_is hu) in
       let name_is : name t ≡ name u = some_is (sym ka.0.0 ∙ ap name_of same.2 ∙ kb.0.0) in
       (same_node t u name_is e same.1 same.0, same.2, same.3)
 
@@ -124,7 +124,7 @@ module _ (cs : List Lexeme) (h : ℕ) (one : One cs h) where
       let path : Path (At cs h) h cs c.cornered.next sb (end a) (end u) d.rest x v' = subst (λ (v : Head). Path (At cs h) h cs v.next sb (end a) (end u) d.rest x v') corner_is d.path in
       let hu' : Halts cs v' c.cornered.next (end u) = halts_next (home z) c.cornered y v' (end u) c.is c.takes.0 (subst (λ (v : ℕ). Halts cs v' v (end u)) home_is hu) in
       let same = one_path c.rest d.rest c.cornered.next sb (end a) (end t) (end u) z x w v' (name t) (name u) (cornered (home z) c.cornered c.is).plain c.path path c.ended d.ended
-            (halts_next (home z) c.cornered y w (end t) c.is c.takes.0 ht) hu' in
+      (halts_next (home z) c.cornered y w (end t) c.is c.takes.0 ht) hu' in
       let name_is : name t ≡ name u = some_is (sym c.ended.0 ∙ ap name_of same.2 ∙ d.ended.0) in
       (same_node t u name_is (sym c.from ∙ d.from) same.1 (c.parts_are ∙ ap (λ (v : List Tree). a ∷ v) same.0 ∙ sym d.parts_are), same.2, same.3)
 
@@ -141,21 +141,21 @@ module _ (cs : List Lexeme) (h : ℕ) (one : One cs h) where
   one_spine g sa {a = a} {y = y} {sb = sb} {u = u} {x = x} {v' = w'} (next {p = p} {x = v} {sx = sx} has c s more) (next {p = p'} {x = v'} {sx = sx'} has' c' s' more') kz kx st su =
       let same = one_next g sa a y sb p p' v v' sx sx' has has' c c' s s' in
       one_spine g sa more (subst (λ (q : Tree). Spine cs h sa g q v sx u x w') (sym same.0) (subst (λ (q : ℕ). Spine cs h sa g p' q sx u x w') (sym same.1)
-        (subst (λ (q : Scope). Spine cs h sa g p' v' q u x w') (sym same.2) more'))) kz kx st su
+      (subst (λ (q : Scope). Spine cs h sa g p' v' q u x w') (sym same.2) more'))) kz kx st su
 
 one_tree_of : (cs : List Lexeme) (h : ℕ) → One cs h
 one_tree_of cs zero g sa t u z x w y a b e st su = absurd (kind_flat cs z sa t w a.1)
 one_tree_of cs (suc h) g sa t u z x w y a b e st su =
     let one = λ (g' : Nonterminal) (sa' : Scope) (t' u' : Tree) (z' x' : ℕ) (w' y' : Scope) (a' : At cs h g' z' sa' t' w') (b' : At cs h g' x' sa' u' y') (e' : start t' ≡ start u') (s : Stops cs w' g' (end t')) (s' : Stops cs y' g' (end u')).
-          one_tree_of cs h g' sa' t' u' z' x' w' y' a' b' e' s s' in
+    one_tree_of cs h g' sa' t' u' z' x' w' y' a' b' e' s s' in
     let c = corner_of cs h sa g t z w a.1 (reach g z a.0) (λ k token has. st k token (top g z k a.0 has)) in
     let d = corner_of cs h sa g u x y b.1 (reach g x b.0) (λ k token has. su k token (top g x k b.0 has)) in
     let same = one_opened cs h one g sa c.first d.first c.place d.place c.state d.state c.kind d.kind c.opener d.opener (c.from ∙ e ∙ sym d.from) c.halts d.halts in
     one_spine cs h one g sa c.spine (subst (λ (q : Tree). Spine cs h sa g q c.place c.state u x y) (sym same.0) (subst (λ (q : ℕ). Spine cs h sa g d.first q c.state u x y) (sym same.1)
-      (subst (λ (q : Scope). Spine cs h sa g d.first d.place q u x y) (sym same.2) d.spine))) a.0 b.0 st su
+    (subst (λ (q : Scope). Spine cs h sa g d.first d.place q u x y) (sym same.2) d.spine))) a.0 b.0 st su
 
 pub one_whole : (g : Nonterminal) (cs : List Lexeme) (t u : Tree) → Whole g cs t → Whole g cs u → t ≡ u
 one_whole g cs t u d e =
     (one_tree_of cs 512 g empty t u d.kind e.kind d.after e.after d.at e.at (d.from ∙ sym e.from)
-      (λ k token has. (let l = class_within cs d.after (end t) k token in absurd (omega (arith, d.to, l))))
-      (λ k token has. (let l = class_within cs e.after (end u) k token in absurd (omega (arith, e.to, l))))).0
+    (λ k token has. (let l = class_within cs d.after (end t) k token in absurd (omega (arith, d.to, l))))
+    (λ k token has. (let l = class_within cs e.after (end u) k token in absurd (omega (arith, e.to, l))))).0

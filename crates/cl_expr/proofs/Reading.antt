@@ -1,6 +1,6 @@
 -- Reading the parts of a production.
 use Rattle.std.proofs.Common.{◌≡◌, ℕ, zero, suc, ◌+◌, ◌≤◌, ◌<◌, List, [], ◌∷◌, ◌++◌, ◌⊎◌, inl, inr, arith, refl, sym, ◌∙◌, ap, subst, append_assoc, append-nil, length, max}
-use Rattle.std.specs.Prelude.{Option, Some, None, slice_get}
+use Rattle.std.specs.Prelude.{Option, Some, None}
 use Rattle.cl_tree.specs.declared.class.Class.{Class}
 use Rattle.cl_tree.specs.declared.nonterminal.Nonterminal.{Nonterminal}
 use Rattle.cl_tree.specs.declared.grammar.Symbol.{Symbol}
@@ -8,7 +8,7 @@ use Rattle.cl_tree.specs.declared.grammar.Symbol.TheVariants.{Token, Node}
 use Rattle.cl_tree.specs.declared.grammar.Separator.{Separator}
 use Rattle.cl_expr.specs.declared.table.Edge.{Edge}
 use Rattle.cl_expr.specs.declared.table.Label.{Label}
-use Rattle.cl_tree.specs.declared.tree.Tree.{Tree, Tree-F, out-Tree, roll-Tree, out-roll-Tree, roll-out-Tree}
+use Rattle.cl_tree.specs.declared.tree.Tree.{Tree, Tree-F, out-Tree, out-roll-Tree}
 use Rattle.cl_expr.specs.declared.reader.Found.{Found}
 use Rattle.cl_tree.specs.declared.lexeme.Lexeme.{Lexeme}
 use Rattle.cl_tree.specs.declared.scope.Scope.{Scope}
@@ -17,13 +17,13 @@ use Rattle.cl_tree.specs.Grammar.{takes}
 use Rattle.cl_tree.specs.declared.grammar.Terminal.{Terminal}
 use Rattle.cl_tree.specs.declared.grammar.Act.{Act}
 use Rattle.cl_expr.proofs.Within.{class_within}
-use Rattle.cl_expr.specs.Table.{edges, name_of, bars, turn, home, corner, kinds, firsts, ends, goes}
+use Rattle.cl_expr.specs.code.Table.{edges, name_of, bars, turn, home, corner}
 use Rattle.cl_tree.specs.Derives.{Has, start, end, parts, leaf}
-use Rattle.cl_expr.specs.Paths.{name, node, Ended, Reads, ReadsAfter, Path, Kind, At}
-use Rattle.cl_expr.specs.Parses.{AllOf, Tall, BeginsSymbol, Begins, Enters, Stops, Halts, StopsSymbol, Gives, Sound, Parses, SoundPart, Part, Half, Builds}
+use Rattle.cl_expr.specs.code.Paths.{name, node, Ended, Reads, ReadsAfter, Path, Kind, At}
+use Rattle.cl_expr.specs.code.Parses.{AllOf, Tall, Begins, Enters, Halts, StopsSymbol, Parses, SoundPart, Part, Half, Builds}
 use Rattle.cl_expr.proofs.Checks.{some_is}
-use Rattle.cl_expr.proofs.Conditions.{Way, one_edge, more, on, held, shut, home_next, plain_next, no_name}
-use Rattle.cl_expr.proofs.Heights.{kind_le, kind_tall, of_kind, path_enters, path_le, reads_first, end_leaf, First, tall_zero, tall_parts}
+use Rattle.cl_expr.proofs.Conditions.{Way, one_edge, more, on, held, shut, home_next, plain_next}
+use Rattle.cl_expr.proofs.Heights.{kind_le, of_kind, path_enters, reads_first, end_leaf, tall_zero, tall_parts}
 
 none_not : {X : Type 0} {x : X} → None ≡ Some x → ⊥
 none_not e = cc
@@ -49,8 +49,10 @@ pub part_leaf : (cs : List Lexeme) (h : ℕ) (sa : Scope) (c : Terminal) (a : Ac
 part_leaf cs h sa c a k at token has some = (let within = class_within cs sa at k token in record {
   found = record {
     reads = λ n l. (refl, l, refl, (k, token, has), refl);
-    grows = rw (end_leaf at) (omega arith); within = rw (end_leaf at) (omega arith);
-    least = one; high = some;
+    grows = rw (end_leaf at) (omega arith);
+    within = rw (end_leaf at) (omega arith);
+    least = one;
+    high = some;
   };
   only = λ p y w r s. (sym r.2, sym r.0, sym r.4);
 })
@@ -66,7 +68,10 @@ part_node cs h sa g at (Some f) p =
     record {
       found = record {
         reads = λ n l. ((o.1, kind_le cs f.height n f.place sa f.tree f.scope l o.0.kind), o.2);
-        grows = subst (λ (i : ℕ). i < end f.tree) o.2 o.0.grows; within = o.0.within; least = o.0.least; high = o.0.high;
+        grows = subst (λ (i : ℕ). i < end f.tree) o.2 o.0.grows;
+        within = o.0.within;
+        least = o.0.least;
+        high = o.0.high;
       };
       only = λ t y w r s. p.only t y w r.0 r.1 s;
     }
@@ -109,7 +114,11 @@ pub record Reading (cs : List Lexeme) (h : ℕ) (sa s0 : Scope) (q0 : ℕ) (ps0 
 
 pub reading_start : (cs : List Lexeme) (h : ℕ) (sa sm : Scope) (q : ℕ) (ps : List Tree) (from mid height : ℕ) → Half cs h sa sm q ps from mid height → Reading cs h sa sm q ps from mid sm q ps mid height
 reading_start cs h sa sm q ps from mid height half = record {
-  half = half; goes_on = λ to rest z sv n p e s. record { rest = rest; joined = refl; path = p; halts = s }; ahead = inl refl; after = omega arith; above0 = half.above;
+  half = half;
+  goes_on = λ to rest z sv n p e s. record { rest = rest; joined = refl; path = p; halts = s };
+  ahead = inl refl;
+  after = omega arith;
+  above0 = half.above;
 }
 
 module _ (cs : List Lexeme) (h : ℕ) (sa s0 : Scope) (q0 : ℕ) (ps0 : List Tree) (from mid0 : ℕ) (sm : Scope) (q : ℕ) (ps : List Tree) (mid height : ℕ) (r : Reading cs h sa s0 q0 ps0 from mid0 sm q ps mid height) where
@@ -135,8 +144,8 @@ module _ (cs : List Lexeme) (h : ℕ) (sa s0 : Scope) (q0 : ℕ) (ps0 : List Tre
     stops_part (Token c a) is y sx at to rest z sv n w p ended halts = tt
     stops_part (Node g) is y sx at to [] z sv n w p ended halts = λ k' t goes.
         halts k' (at_end sx sv at to k' p.0 p.2 t)
-          (held q e g y k' n has is w (subst (λ (v : ℕ). name_of v ≡ Some n) (sym p.1) ended.0)
-            (λ b. ended.1 k' (at_end sx sv at to k' p.0 p.2 t) (subst (λ (v : ℕ). Has (bars v) k') p.1 b)) goes)
+        (held q e g y k' n has is w (subst (λ (v : ℕ). name_of v ≡ Some n) (sym p.1) ended.0)
+        (λ b. ended.1 k' (at_end sx sv at to k' p.0 p.2 t) (subst (λ (v : ℕ). Has (bars v) k') p.1 b)) goes)
     stops_part (Node g) is y sx at to (p2 ∷ rest) z sv n w p ended halts = λ k' t goes. (
         let f = path_enters cs h (turn e.next y) sx at to p2 rest z sv p in
         let same : f.class ≡ k' = some_is (sym f.token ∙ t) in
@@ -145,8 +154,8 @@ module _ (cs : List Lexeme) (h : ℕ) (sa s0 : Scope) (q0 : ℕ) (ps0 : List Tre
     next_of : (to : ℕ) (whole : List Tree) (z : ℕ) (sv : Scope) (n : Label) → Ended cs sv z to n → (rest : List Tree) → whole ≡ ps ++ rest → Path (At cs h) h cs q sm mid to rest z sv → Halts cs sv q to → Next to whole z sv
     next_of to whole z sv n ended [] joined p halts =
         absurd (halts k (at_end sm sv mid to k p.0 p.2 token)
-          (more q k n (e, has, begins) (subst (λ (v : ℕ). name_of v ≡ Some n) (sym p.1) ended.0)
-            (λ b. ended.1 k (at_end sm sv mid to k p.0 p.2 token) (subst (λ (v : ℕ). Has (bars v) k) p.1 b))))
+        (more q k n (e, has, begins) (subst (λ (v : ℕ). name_of v ≡ Some n) (sym p.1) ended.0)
+        (λ b. ended.1 k (at_end sm sv mid to k p.0 p.2 token) (subst (λ (v : ℕ). Has (bars v) k) p.1 b))))
     next_of to whole z sv n ended (t ∷ rest) joined p halts =
         let f = reads_first cs h p.0.before p.0.symbol p.1 sm mid t p.2 p.4 in
         let class_is : f.class ≡ k = some_is (sym f.token ∙ token) in
@@ -155,7 +164,13 @@ module _ (cs : List Lexeme) (h : ℕ) (sa s0 : Scope) (q0 : ℕ) (ps0 : List Tre
         let path : Path (At cs h) h cs (turn e.next p.1) p.2 (end t) to rest z sv = subst (λ (d : Edge). Path (At cs h) h cs (turn d.next p.1) p.2 (end t) to rest z sv) edge_is p.5 in
         let way : Way e.symbol p.1 = way_of cs h e.before e.symbol p.1 sm mid t p.2 reads in
         record {
-          part = t; kind = p.1; state = p.2; more_parts = rest; joined = joined; reads = reads; path = path;
+          part = t;
+          kind = p.1;
+          state = p.2;
+          more_parts = rest;
+          joined = joined;
+          reads = reads;
+          path = path;
           halts = λ k' at ends. halts k' at (on q e p.1 k' has way ends);
           stops = stops_part e.symbol refl p.1 p.2 (end t) to rest z sv n way path ended halts;
         }
@@ -182,20 +197,24 @@ module _ (cs : List Lexeme) (h : ℕ) (sa s0 : Scope) (q0 : ℕ) (ps0 : List Tre
         record {
           half = record {
             joins = λ n to rest z sv le p. (
-              let p' : Path (At cs n) n cs (turn e.next f.place) f.scope (end f.tree) to rest z sv = subst (λ (v : ℕ). Path (At cs n) n cs v f.scope (end f.tree) to rest z sv) place p in
-              let j : Path (At cs n) n cs (home q) sa from to (ps ++ f.tree ∷ rest) z sv = r.half.joins n to (f.tree ∷ rest) z sv (omega arith) (e, f.place, f.scope, has, s.reads n (omega arith), p') in
-              subst (λ (v : ℕ). Path (At cs n) n cs v sa from to ((ps ++ f.tree ∷ []) ++ rest) z sv) (sym home_is')
+                let p' : Path (At cs n) n cs (turn e.next f.place) f.scope (end f.tree) to rest z sv = subst (λ (v : ℕ). Path (At cs n) n cs v f.scope (end f.tree) to rest z sv) place p in
+                let j : Path (At cs n) n cs (home q) sa from to (ps ++ f.tree ∷ rest) z sv = r.half.joins n to (f.tree ∷ rest) z sv (omega arith) (e, f.place, f.scope, has, s.reads n (omega arith), p') in
+                subst (λ (v : ℕ). Path (At cs n) n cs v sa from to ((ps ++ f.tree ∷ []) ++ rest) z sv) (sym home_is')
                 (subst (λ (v : List Tree). Path (At cs n) n cs (home q) sa from to v z sv) (sym (append_assoc ps (f.tree ∷ []) rest)) j));
             least = λ k' a. (
-              let b : height ≤ k' = r.half.least k' (all_front (Tall k') ps f.tree a) in
-              let d : f.height ≤ k' = s.least k' (all_last (Tall k') ps f.tree a) in
-              omega arith);
+                let b : height ≤ k' = r.half.least k' (all_front (Tall k') ps f.tree a) in
+                let d : f.height ≤ k' = s.least k' (all_last (Tall k') ps f.tree a) in
+                omega arith);
             plain = subst (λ (v : ℕ). corner v ≡ None) (sym place) (plain_next q e f.place has way);
-            within = s.within; above = omega (arith, r.half.above); high = omega arith;
+            within = s.within;
+            above = omega (arith, r.half.above);
+            high = omega arith;
           };
           goes_on = λ to rest z sv n p ended halts. (let x = next to rest z sv n p ended halts in
-            go to (ps0 ++ rest) z sv x.part x.kind x.state x.more_parts x.joined (part.only x.part x.kind x.state x.reads x.stops) x.path x.halts);
-          ahead = inr (omega (arith, r.after)); after = omega (arith, r.after); above0 = r.above0;
+              go to (ps0 ++ rest) z sv x.part x.kind x.state x.more_parts x.joined (part.only x.part x.kind x.state x.reads x.stops) x.path x.halts);
+          ahead = inr (omega (arith, r.after));
+          after = omega (arith, r.after);
+          above0 = r.above0;
         }
       where
         go : (to : ℕ) (whole : List Tree) (z : ℕ) (sv : Scope) (t : Tree) (y : ℕ) (sx : Scope) (rest : List Tree) → whole ≡ ps ++ t ∷ rest → (f.tree ≡ t) × (f.place ≡ y) × (f.scope ≡ sx)
@@ -206,7 +225,7 @@ module _ (cs : List Lexeme) (h : ℕ) (sa s0 : Scope) (q0 : ℕ) (ps0 : List Tre
               rest = rest;
               joined = joined ∙ ap (λ (v : Tree). ps ++ v ∷ rest) (sym same.0) ∙ sym (append_assoc ps (f.tree ∷ []) rest);
               path = subst (λ (x : Scope). Path (At cs h) h cs q' x (end f.tree) to rest z sv) (sym same.2)
-                (subst (λ (v : Tree). Path (At cs h) h cs q' sx (end v) to rest z sv) (sym same.0) (subst (λ (v : ℕ). Path (At cs h) h cs v sx (end t) to rest z sv) place_is p));
+                  (subst (λ (v : Tree). Path (At cs h) h cs q' sx (end v) to rest z sv) (sym same.0) (subst (λ (v : ℕ). Path (At cs h) h cs v sx (end t) to rest z sv) place_is p));
               halts = subst (λ (v : ℕ). Halts cs sv v to) place_is halts;
             }
 
@@ -235,7 +254,7 @@ module _ (cs : List Lexeme) (h : ℕ) (sa s0 : Scope) (q0 : ℕ) (ps0 : List Tre
     barred_end k token bar = record {
       found = tt;
       only = λ to rest z sv n p ended halts. (let o = over to rest z sv n p ended halts in
-        ended.1 k (subst (λ (i : ℕ). class_at cs sv i ≡ Some k) o.at (subst (λ (x : Scope). class_at cs x mid ≡ Some k) o.state token)) (subst (λ (v : ℕ). Has (bars v) k) o.place bar));
+          ended.1 k (subst (λ (i : ℕ). class_at cs sv i ≡ Some k) o.at (subst (λ (x : Scope). class_at cs x mid ≡ Some k) o.state token)) (subst (λ (v : ℕ). Has (bars v) k) o.place bar));
     }
 
     pub reading_end : (n : Label) → name_of q0 ≡ None → Ended cs sm q mid n
@@ -246,16 +265,20 @@ module _ (cs : List Lexeme) (h : ℕ) (sa s0 : Scope) (q0 : ℕ) (ps0 : List Tre
         let path' : Path (At cs height) height cs (home q) sa from mid ps q sm = subst (λ (v : List Tree). Path (At cs height) height cs (home q) sa from mid v q sm) (append-nil ps) path in
         let strict : mid0 < mid = further r.ahead in
         record {
-          found = (record {
-            kind = subst (λ (i : ℕ). Kind cs i q sa (node n from mid ps) sm) (omega arith) (of_kind cs height q sa (node n from mid ps) sm (whole_ended) (whole_path path'));
-            grows = subst (λ (x : Tree-F Tree). x.from < x.to) (sym rolled) (omega (arith, r.above0));
-            within = subst (λ (x : Tree-F Tree). x.to ≤ length cs) (sym rolled) r.half.within;
-            least = whole_least;
-            high = omega arith;
-          }, ap (λ x. x.from) rolled, subst (λ (x : Tree-F Tree). mid0 < x.to) (sym rolled) strict);
+          found = (
+            record {
+              kind = subst (λ (i : ℕ). Kind cs i q sa (node n from mid ps) sm) (omega arith) (of_kind cs height q sa (node n from mid ps) sm (whole_ended) (whole_path path'));
+              grows = subst (λ (x : Tree-F Tree). x.from < x.to) (sym rolled) (omega (arith, r.above0));
+              within = subst (λ (x : Tree-F Tree). x.to ≤ length cs) (sym rolled) r.half.within;
+              least = whole_least;
+              high = omega arith;
+            },
+            ap (λ x. x.from) rolled,
+            subst (λ (x : Tree-F Tree). mid0 < x.to) (sym rolled) strict,
+          );
           only = λ to rest z sv n' p ended' halts. (let o = over to rest z sv n' p ended' halts in
-            let name_is : n ≡ n' = some_is (sym ended.0 ∙ ap name_of o.place ∙ ended'.0) in
-            ((λ i. node (name_is i) from (o.at i) (sym o.joined i)), o.place, o.state));
+              let name_is : n ≡ n' = some_is (sym ended.0 ∙ ap name_of o.place ∙ ended'.0) in
+              ((λ i. node (name_is i) from (o.at i) (sym o.joined i)), o.place, o.state));
         }
       where
         rolled : out-Tree (node n from mid ps) ≡ record { rule = n.rule; choice = n.choice; from = from; to = mid; parts = ps }

@@ -1,19 +1,12 @@
 -- What the code has of a place or a nonterminal is what the table says.
-use Rattle.std.proofs.Common.{◌≡◌, ℕ, ◌+◌, ◌-◌, ◌≤◌, List, [], ◌∷◌, map, refl, sym, ◌∙◌, ap, length, Bool, true, false, ◌&&◌, arith}
+use Rattle.std.proofs.Common.{◌≡◌, ℕ, ◌+◌, ◌-◌, ◌≤◌, List, [], map, refl, sym, ◌∙◌, ap, length, Bool, true, false, ◌&&◌, arith}
 use Rattle.std.specs.Prelude.{Option, Some, None, slice_get, slice_range}
 use Rattle.std.specs.Option.{option_map}
 use Rattle.std.proofs.lemmas.Option.{slice_get-map}
-use Rattle.cl_tree.specs.declared.class.Class.{Class}
 use Rattle.cl_tree.specs.declared.nonterminal.Nonterminal.{Nonterminal}
-use Rattle.cl_tree.specs.declared.grammar.Terminal.{Terminal}
-use Rattle.cl_expr.specs.declared.table.Edge.{Edge}
-use Rattle.cl_expr.specs.declared.table.Label.{Label}
-use Rattle.cl_expr.specs.declared.table.Head.{Head}
-use Rattle.cl_expr.specs.declared.table.Ways.{Ways}
 use Rattle.cl_expr.specs.declared.table.Row.{Row}
-use Rattle.cl_expr.specs.declared.table.Span.{Span}
 use Rattle.cl_expr.specs.declared.table.GoalRow.{GoalRow}
-use Rattle.cl_expr.specs.Table.{Place, Goal, places, goals, place, goal, nowhere, nothing, place_of, goal_of, rows, goal_rows, all_edges, all_kinds, all_openers, all_suffixes, all_firsts, edges, name_of, bar_of, corner, turning, is_named, kinds, openers, suffixes, firsts, number}
+use Rattle.cl_expr.specs.code.Table.{Place, Goal, places, goals, place, goal, nowhere, nothing, place_of, goal_of, rows, goal_rows, first_spans, all_edges, all_kinds, all_openers, all_suffixes, all_firsts, edges, name_of, bar_of, corner, turning, is_named, kinds, openers, suffixes, firsts, number}
 use Rattle.std.proofs.Math.Dec.{eqb}
 use Rattle.std.proofs.lemmas.Bool.{eqb-true, and_parts}
 use Rattle.cl_expr.proofs.Checks.{every, every_at, some_is, none_not}
@@ -138,11 +131,11 @@ unfolding edges
 none_edges q e = ap (λ (p : Place). p.edges) (missing q e)
 
 goal_kinds : map (λ (r : GoalRow). slice_range all_kinds r.kinds.from r.kinds.to) goal_rows ≡ map (λ (p : Goal). p.kinds) goals
-unfolding goal_rows goals all_kinds
+unfolding goal_rows goals first_spans all_kinds
 goal_kinds = refl
 
 kinds_lie_all : every (λ (r : GoalRow). lies r.kinds.from r.kinds.to (length all_kinds)) goal_rows ≡ true
-unfolding goal_rows goals all_kinds
+unfolding goal_rows goals first_spans all_kinds
 kinds_lie_all = refl
 
 pub kinds_are : (g : Nonterminal) (r : GoalRow) → slice_get goal_rows (number g) ≡ Some r → slice_range all_kinds r.kinds.from r.kinds.to ≡ kinds g
@@ -159,11 +152,11 @@ none_kinds g e = ap (λ (p : Goal). p.kinds) (none_goal (λ (p : Goal). p.kinds)
     (ap (option_map (λ (r : GoalRow). slice_range all_kinds r.kinds.from r.kinds.to)) (sym e) ∙ fields goal_rows goals (λ (r : GoalRow). slice_range all_kinds r.kinds.from r.kinds.to) (λ (p : Goal). p.kinds) goal_kinds (number g)))
 
 goal_openers : map (λ (r : GoalRow). slice_range all_openers r.openers.from r.openers.to) goal_rows ≡ map (λ (p : Goal). p.openers) goals
-unfolding goal_rows goals all_openers
+unfolding goal_rows goals first_spans all_openers
 goal_openers = refl
 
 openers_lie_all : every (λ (r : GoalRow). lies r.openers.from r.openers.to (length all_openers)) goal_rows ≡ true
-unfolding goal_rows goals all_openers
+unfolding goal_rows goals first_spans all_openers
 openers_lie_all = refl
 
 pub openers_are : (g : Nonterminal) (r : GoalRow) → slice_get goal_rows (number g) ≡ Some r → slice_range all_openers r.openers.from r.openers.to ≡ openers g
@@ -180,11 +173,11 @@ none_openers g e = ap (λ (p : Goal). p.openers) (none_goal (λ (p : Goal). p.op
     (ap (option_map (λ (r : GoalRow). slice_range all_openers r.openers.from r.openers.to)) (sym e) ∙ fields goal_rows goals (λ (r : GoalRow). slice_range all_openers r.openers.from r.openers.to) (λ (p : Goal). p.openers) goal_openers (number g)))
 
 goal_suffixes : map (λ (r : GoalRow). slice_range all_suffixes r.suffixes.from r.suffixes.to) goal_rows ≡ map (λ (p : Goal). p.suffixes) goals
-unfolding goal_rows goals all_suffixes
+unfolding goal_rows goals first_spans all_suffixes
 goal_suffixes = refl
 
 suffixes_lie_all : every (λ (r : GoalRow). lies r.suffixes.from r.suffixes.to (length all_suffixes)) goal_rows ≡ true
-unfolding goal_rows goals all_suffixes
+unfolding goal_rows goals first_spans all_suffixes
 suffixes_lie_all = refl
 
 pub suffixes_are : (g : Nonterminal) (r : GoalRow) → slice_get goal_rows (number g) ≡ Some r → slice_range all_suffixes r.suffixes.from r.suffixes.to ≡ suffixes g
@@ -201,11 +194,11 @@ none_suffixes g e = ap (λ (p : Goal). p.suffixes) (none_goal (λ (p : Goal). p.
     (ap (option_map (λ (r : GoalRow). slice_range all_suffixes r.suffixes.from r.suffixes.to)) (sym e) ∙ fields goal_rows goals (λ (r : GoalRow). slice_range all_suffixes r.suffixes.from r.suffixes.to) (λ (p : Goal). p.suffixes) goal_suffixes (number g)))
 
 goal_firsts : map (λ (r : GoalRow). slice_range all_firsts r.firsts.from r.firsts.to) goal_rows ≡ map (λ (p : Goal). p.firsts) goals
-unfolding goal_rows goals all_firsts
+unfolding goal_rows goals first_spans all_firsts
 goal_firsts = refl
 
 firsts_lie_all : every (λ (r : GoalRow). lies r.firsts.from r.firsts.to (length all_firsts)) goal_rows ≡ true
-unfolding goal_rows goals all_firsts
+unfolding goal_rows goals first_spans all_firsts
 firsts_lie_all = refl
 
 pub firsts_are : (g : Nonterminal) (r : GoalRow) → slice_get goal_rows (number g) ≡ Some r → slice_range all_firsts r.firsts.from r.firsts.to ≡ firsts g

@@ -1,6 +1,6 @@
 -- Looking through a list.
-use Rattle.std.proofs.Common.{◌≡◌, ℕ, zero, suc, ◌+◌, ◌≤◌, ◌<◌, List, [], ◌∷◌, ◌⊎◌, inl, inr, arith, refl, sym, ◌∙◌, ap, subst, length, get_or}
-use Rattle.std.specs.Prelude.{Option, Some, None, slice_get}
+use Rattle.std.proofs.Common.{◌≡◌, ℕ, zero, suc, ◌+◌, ◌≤◌, ◌<◌, List, ◌⊎◌, inl, inr, arith, refl, sym, ap, subst, length, get_or}
+use Rattle.std.specs.Prelude.{Some, slice_get}
 use Rattle.std.proofs.lemmas.Option.{slice_get-get_or, slice_get_within, get_or_from_slice_get}
 use Rattle.cl_tree.specs.Derives.{Has}
 
@@ -20,10 +20,11 @@ module _ {X : Type 0} (P : X → Type 0) (xs : List X) where
 
   pub before_next : (n : ℕ) (d : X) → Before P xs n → (P (get_or xs n d) → ⊥) → Before P xs (n + 1)
   before_next n d b not i l x e p = elim (split i n l) [
-    inl less ↦ b i less x e p
+    | inl less ↦ b i less x e p
     | inr same ↦ (
-      let f : get_or xs n d ≡ x = get_or_from_slice_get xs n x d (subst (λ (j : ℕ). slice_get xs j ≡ Some x) same e) in
-      not (subst P (sym f) p)) ]
+        let f : get_or xs n d ≡ x = get_or_from_slice_get xs n x d (subst (λ (j : ℕ). slice_get xs j ≡ Some x) same e) in
+        not (subst P (sym f) p))
+  ]
 
   pub before_all : (n : ℕ) → Before P xs n → length xs ≤ n → (x : X) → Has xs x → P x → ⊥
   before_all n b l x has p = let w = slice_get_within xs has.0 x has.1 in b has.0 (omega arith) x has.1 p

@@ -1,3 +1,1 @@
-pub mod Parses
-pub mod Paths
-pub mod Table
+pub mod code

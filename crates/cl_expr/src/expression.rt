@@ -40,7 +40,12 @@ fn whole_tree(alloc: Global, tokens: &[Lexeme], goal: Nonterminal) -> Mem<Option
 
 /// The one tree of a nonterminal on all of these tokens, where these names are typedef names before the first. None exactly
 /// where no tree of a height of at most 512 derives. 2^32 - 4 tokens or more are want of memory.
-pub fn parse(alloc: Global, tokens: &[PpToken], typedefs: &NameSet, goal: Nonterminal) -> Mem<Option<Tree>>
+pub fn parse(
+    alloc: Global,
+    tokens: &[PpToken],
+    typedefs: &NameSet,
+    goal: Nonterminal,
+) -> Mem<Option<Tree>>
     ensures found { IfOk result (λ tree. IfSome tree (Derives goal typedefs.now tokens.now)) }
     ensures only { IfOk result (λ tree. (t : TheTree) → Derives goal typedefs.now tokens.now t → tree ≡ Some t) }
 {
@@ -65,5 +70,4 @@ pub fn parse_expr(alloc: Global, tokens: &[PpToken], typedefs: &NameSet) -> Mem<
 /// No list of tokens has two trees of one nonterminal, whatever names are typedef names.
 pub fn one_tree()
     ensures { (g : TheNonterminal) (names : TheNames) (tokens : List TheToken) (t u : TheTree) → Derives g names tokens t → Derives g names tokens u → t ≡ u }
-{
-}
+{}

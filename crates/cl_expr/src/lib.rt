@@ -1,7 +1,11 @@
 //! Expressions with their one tree, by an engine that reads any nonterminal of the grammar's table.
 #![tactic(auto)]
 
+mod edge_rows;
 mod expression;
+mod first_rows;
+mod goal_rows;
+mod place_rows;
 mod places;
 mod reader;
 mod scan;

@@ -1,11 +1,13 @@
 //! What stands in the tables of a place or a nonterminal.
 
 ghost use Rattle.std.specs.Prelude.{◌≡◌, slice_get};
-ghost use Rattle.cl_expr.specs.Table as t;
+ghost use Rattle.cl_expr.specs.code.Table as t;
 
-use crate::table::{
-    Edge, GoalRow, Head, Label, Row, Ways, all_edges, all_firsts, all_kinds, all_openers, all_suffixes, goal_rows, rows,
-};
+use crate::edge_rows::all_edges;
+use crate::first_rows::all_firsts;
+use crate::goal_rows::{all_kinds, all_openers, all_suffixes, goal_rows};
+use crate::place_rows::rows;
+use crate::table::{Edge, GoalRow, Head, Label, Row, Ways};
 use cl_tree::{Class, Nonterminal, Terminal};
 
 fn row_at(place: u16) -> Option<Row>

@@ -5,14 +5,16 @@ ghost use Rattle.cl_tree.specs.Scopes as n;
 ghost use Rattle.cl_tree.specs.Derives.{Has, start, end, leaf};
 ghost use Rattle.cl_tree.specs.declared.class.Class.{Class};
 ghost use Rattle.cl_tree.specs.declared.grammar.Symbol.TheVariants.{Token};
-ghost use Rattle.cl_expr.specs.Table as t;
-ghost use Rattle.cl_expr.specs.Parses.{Parses, Nests, Part, Half, Builds, Opens, Steps, Climbs, GoesOn, Sound, Begins, Enters};
+ghost use Rattle.cl_expr.specs.code.Table as t;
+ghost use Rattle.cl_expr.specs.code.Parses.{Parses, Nests, Part, Half, Builds, Opens, Steps, Climbs, GoesOn, Sound, Begins, Enters};
 
 use crate::places::{bar, corner, kinds, name_of, turn};
 use crate::scan::{going, has_place, look, opening, same_class, taken};
 use crate::table::Edge;
 use cl_base::{List, Mem};
-use cl_tree::{Act, Class, Lexeme, Nonterminal, Rule, Scope, Separator, Symbol, Terminal, Tree, class_at, pass};
+use cl_tree::{
+    Act, Class, Lexeme, Nonterminal, Rule, Scope, Separator, Symbol, Terminal, Tree, class_at, pass,
+};
 use std::alloc::Global;
 
 /// A tree, the place where its production ended, what is declared after it, and its height.
@@ -104,7 +106,13 @@ impl<F: Fn(Global, &[Lexeme], &Scope, Nonterminal, u32, u32) -> Mem<Option<Found
     }
 
     /// What a symbol stands for, after a separator.
-    fn separated(&self, scope: Scope, separator: Separator, symbol: Symbol, at: u32) -> Mem<Option<Found>>
+    fn separated(
+        &self,
+        scope: Scope,
+        separator: Separator,
+        symbol: Symbol,
+        at: u32,
+    ) -> Mem<Option<Found>>
         requires nests { Nests self.now.tokens.now self.now.depth (F.pre self.now.parse) (F.post self.now.parse) }
         ensures { IfOk result (Part self.now.tokens.now self.now.depth scope (Some separator) symbol at) }
     {

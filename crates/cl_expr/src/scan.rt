@@ -5,8 +5,8 @@ ghost use Rattle.cl_tree.specs.Scopes as n;
 ghost use Rattle.cl_tree.specs.Grammar.{takes};
 ghost use Rattle.cl_tree.specs.Derives.{Has};
 ghost use Rattle.cl_tree.specs.declared.class.Class.{Class};
-ghost use Rattle.cl_expr.specs.Table as t;
-ghost use Rattle.cl_expr.specs.Parses.{Begins, BeginsSymbol, Enters, GoesOn};
+ghost use Rattle.cl_expr.specs.code.Table as t;
+ghost use Rattle.cl_expr.specs.code.Parses.{Begins, BeginsSymbol, Enters, GoesOn};
 
 use crate::places::{corner, edges, firsts, kinds, openers, suffixes};
 use crate::table::Edge;
@@ -55,10 +55,18 @@ pub fn taken(terminal: Terminal, class: Class) -> bool
     match terminal {
         Terminal::Is(own) => has_class(&[own], class),
         Terminal::Name => has_class(
-            &[Class::Ident, Class::IdentColon, Class::TypedefName, Class::TypedefColon],
+            &[
+                Class::Ident,
+                Class::IdentColon,
+                Class::TypedefName,
+                Class::TypedefColon,
+            ],
             class,
         ),
-        Terminal::Open => has_class(&[Class::LeftParen, Class::TypeParen, Class::LiteralParen], class),
+        Terminal::Open => has_class(
+            &[Class::LeftParen, Class::TypeParen, Class::LiteralParen],
+            class,
+        ),
         Terminal::TypeOpen => has_class(&[Class::TypeParen, Class::LiteralParen], class),
         Terminal::Typed => has_class(&[Class::TypedefName, Class::TypedefColon], class),
     }

@@ -1,6 +1,6 @@
 -- The last item of a list, and what comes back with it.
 use Rattle.std.proofs.Common.{◌≡◌, ℕ, suc, ◌-◌, arith, List, [], ◌∷◌, ◌++◌, refl, ap, sym, ◌∙◌, take, Bool, true, false, ◌&&◌}
-use Rattle.std.specs.Prelude.{Option, Some, None, nat_lt, length, slice_get, Result, Ok, Err, IfOk}
+use Rattle.std.specs.Prelude.{Some, nat_lt, length, slice_get, Result, Ok, Err, IfOk}
 use Rattle.cl_tree.specs.declared.scope.Frame.{Frame}
 use Rattle.cl_tree.specs.declared.scope.Change.{Change}
 use Rattle.cl_tree.specs.declared.scope.Scope.{Scope}

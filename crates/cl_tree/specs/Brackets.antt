@@ -1,5 +1,5 @@
 -- The partners of brackets, and how far a bad item goes.
-use Rattle.std.specs.Prelude.{◌≡◌, ℕ, zero, suc, ◌+◌, ◌-◌, List, [], ◌∷◌, ◌++◌, Option, Some, None, length, slice_get, slice_set, take, Bool, true, false, cond, ◌||◌, ◌&&◌, not, nat_lt, codes}
+use Rattle.std.specs.Prelude.{ℕ, zero, suc, ◌+◌, ◌-◌, List, [], ◌∷◌, ◌++◌, Option, Some, None, length, slice_get, slice_set, take, Bool, true, false, cond, ◌||◌, ◌&&◌, not, nat_lt, codes}
 use Rattle.cl_base.specs.declared.token.PpToken.{PpToken}
 use Rattle.cl_base.specs.Tokens.{is_punct, spells}
 use Rattle.cl_tree.specs.Ends.{last, front}
@@ -14,11 +14,11 @@ use Rattle.cl_tree.specs.declared.bracket.Pairs.{Pairs}
 abbrev pub bracket_by : List ℕ → Bracket
 bracket_by text =
     cond (spells text (codes "(")) (br.Open side.Round)
-      (cond (spells text (codes ")")) (br.Close side.Round)
-        (cond (spells text (codes "[") || spells text (codes "<:")) (br.Open side.Square)
-          (cond (spells text (codes "]") || spells text (codes ":>")) (br.Close side.Square)
-            (cond (spells text (codes "{") || spells text (codes "<%")) (br.Open side.Curly)
-              (cond (spells text (codes "}") || spells text (codes "%>")) (br.Close side.Curly) br.None)))))
+    (cond (spells text (codes ")")) (br.Close side.Round)
+    (cond (spells text (codes "[") || spells text (codes "<:")) (br.Open side.Square)
+    (cond (spells text (codes "]") || spells text (codes ":>")) (br.Close side.Square)
+    (cond (spells text (codes "{") || spells text (codes "<%")) (br.Open side.Curly)
+    (cond (spells text (codes "}") || spells text (codes "%>")) (br.Close side.Curly) br.None)))))
 
 -- what a token is to the brackets, by its spelling (6.4.6)
 abbrev pub bracket_of : PpToken → Bracket
@@ -63,11 +63,14 @@ abbrev pub close_other : Pairing → Side → Option Opened → Pairing
 close_other p s None = alone p
 close_other p s (Some o) =
     cond (nat_lt (opened_before (last p.braces)) (length p.others) && same_side o.side s)
-      (record { braces = p.braces; others = front p.others; partners = paired p.partners o.at }) (alone p)
+    (record { braces = p.braces; others = front p.others; partners = paired p.partners o.at }) (alone p)
 
 abbrev pub open_bracket : Pairing → Side → Pairing
 open_bracket p side.Curly = record {
-  braces = p.braces ++ record { at = length p.partners; before = length p.others } ∷ []; others = p.others; partners = p.partners ++ length p.partners ∷ [] }
+  braces = p.braces ++ record { at = length p.partners; before = length p.others } ∷ [];
+  others = p.others;
+  partners = p.partners ++ length p.partners ∷ [];
+}
 open_bracket p s = record { braces = p.braces; others = p.others ++ record { at = length p.partners; side = s } ∷ []; partners = p.partners ++ length p.partners ∷ [] }
 
 abbrev pub close_bracket : Pairing → Side → Pairing
@@ -110,10 +113,10 @@ unfoldable pub bad_from : List PpToken → List ℕ → ℕ → ℕ → ℕ → 
 bad_from tokens pairs zero at end = end
 bad_from tokens pairs (suc n) at end =
     cond (not (nat_lt at end)) end
-      (cond (spells_at tokens at (codes ";")) (at + 1)
-        (cond (nat_lt at (partner_by (slice_get pairs at)))
-          (cond (brace_at tokens at) (past_group (partner_by (slice_get pairs at)) end) (bad_from tokens pairs n (partner_by (slice_get pairs at) + 1) end))
-          (bad_from tokens pairs n (at + 1) end)))
+    (cond (spells_at tokens at (codes ";")) (at + 1)
+    (cond (nat_lt at (partner_by (slice_get pairs at)))
+    (cond (brace_at tokens at) (past_group (partner_by (slice_get pairs at)) end) (bad_from tokens pairs n (partner_by (slice_get pairs at) + 1) end))
+    (bad_from tokens pairs n (at + 1) end)))
 
 abbrev pub bad_extent : List PpToken → List ℕ → ℕ → ℕ → ℕ
 bad_extent tokens pairs from end = bad_from tokens pairs (end - from) from end

@@ -1,7 +1,6 @@
 -- What it is for a tree to derive: each of its nodes is one of a production, and its parts are what the right side asks for.
 use Rattle.std.specs.Prelude.{◌≡◌, ℕ, zero, suc, ◌+◌, ◌≤◌, List, [], ◌∷◌, ◌++◌, Option, Some, None, slice_get, length, drop, Bool, true, false, cond}
 use Rattle.cl_tree.specs.declared.class.Class.{Class}
-use Rattle.cl_tree.specs.declared.rule.Rule.{Rule}
 use Rattle.cl_tree.specs.declared.rule.Rule.TheVariants as ru
 use Rattle.cl_tree.specs.declared.nonterminal.Nonterminal.{Nonterminal}
 use Rattle.cl_tree.specs.declared.grammar.Terminal.{Terminal}
@@ -12,7 +11,7 @@ use Rattle.cl_tree.specs.declared.grammar.Part.TheVariants.{One, Optional, Many}
 use Rattle.cl_tree.specs.declared.grammar.Separator.{Separator}
 use Rattle.cl_tree.specs.declared.grammar.Again.{Again}
 use Rattle.cl_tree.specs.declared.grammar.Unit.{Unit as UnitRow}
-use Rattle.cl_tree.specs.declared.tree.Tree.{Tree, Tree-F, out-Tree, roll-Tree}
+use Rattle.cl_tree.specs.declared.tree.Tree.{Tree, out-Tree, roll-Tree}
 use Rattle.cl_tree.specs.declared.lexeme.Lexeme.{Lexeme}
 use Rattle.cl_tree.specs.declared.scope.Scope.{Scope}
 use Rattle.cl_tree.specs.Scopes.{empty, class_at, pass}

@@ -1,6 +1,6 @@
 -- The grammar of expressions and declarations: N1570 A.2.1 and A.2.2, in the standard's order and with its section numbers.
 -- Written by tools/grammar/emit_tree.py from tools/grammar/annex.py.
-use Rattle.std.specs.Prelude.{ℕ, List, [], ◌∷◌, ◌++◌, Option, Some, None, slice_range}
+use Rattle.std.specs.Prelude.{ℕ, List, [], ◌∷◌, ◌++◌, Option, Some, None, cond, slice_range}
 use Rattle.cl_tree.specs.declared.class.Class.{Class}
 use Rattle.cl_tree.specs.declared.class.Class.TheVariants as cl
 use Rattle.cl_tree.specs.declared.rule.Rule.{Rule}
@@ -27,7 +27,6 @@ pub record Production : Type 0 where
   pub parts : List Part
   pub again : List Again
   pub bar : Option Terminal
-
 
 -- the classes of tokens that a terminal stands for
 abbrev pub takes : Terminal → List Class
@@ -371,4 +370,4 @@ unfoldable pub all_agains : List Again
 all_agains = agains_of productions
 
 abbrev pub plain : ProductionRow → Production
-plain p = record { of = p.of; rule = p.rule; choice = p.choice; parts = slice_range all_parts p.first p.last; again = slice_range all_agains p.again_first p.again_last; bar = p.bar }
+plain p = record { of = p.of; rule = p.rule; choice = p.choice; parts = slice_range all_parts p.parts.from p.parts.to; again = slice_range all_agains p.again.from p.again.to; bar = cond p.typed None (Some te.Typed) }

@@ -1,5 +1,5 @@
 -- Which names are typedef names at a place of a text (N1570 6.2.1p7, 6.7.8), and the classes of tokens that follow from them.
-use Rattle.std.specs.Prelude.{◌≡◌, ℕ, ◌+◌, List, [], ◌∷◌, ◌++◌, Option, Some, None, slice_get, length, take, Bool, true, false, cond, ◌||◌, ◌&&◌, not, nat_eq}
+use Rattle.std.specs.Prelude.{ℕ, ◌+◌, List, [], ◌∷◌, ◌++◌, Option, Some, None, slice_get, length, take, Bool, true, false, cond, ◌||◌, not, nat_eq}
 use Rattle.std.specs.Cmp.Lexicographic.{pointwise}
 use Rattle.cl_tree.specs.declared.class.Class.{Class}
 use Rattle.cl_tree.specs.declared.class.Class.TheVariants as cl

@@ -1,5 +1,5 @@
 -- What a token is to the grammar, before it is known which names are typedef names.
-use Rattle.std.specs.Prelude.{Bool, true, false, Option, Some, None}
+use Rattle.std.specs.Prelude.{Bool, true, false}
 use Rattle.cl_tree.specs.declared.class.Class.TheVariants as cl
 use Rattle.cl_tree.specs.declared.shape.Raw.{Raw}
 use Rattle.cl_tree.specs.declared.shape.Raw.TheVariants as raw

@@ -276,7 +276,8 @@ fn spells_at(tokens: &[PpToken], at: usize, text: &[u8]) -> bool
     }
 }
 
-fn partner_at(pairs: &[u32], at: usize) -> usize
+/// The partner of the token at a number; past the end 0.
+fn partner_at(pairs: &List<u32>, at: usize) -> usize
     ensures value { result ≡ b.partner_by (slice_get pairs.now at) }
     ensures room { result < 2 ^ 32 }
 {
@@ -297,13 +298,17 @@ fn brace_at(tokens: &[PpToken], at: usize) -> bool
 fn past_group(partner: usize, end: u32) -> u32
     ensures { result ≡ b.past_group partner end }
 {
-    if partner < end as usize { partner as u32 + 1 } else { end }
+    if partner < end as usize {
+        partner as u32 + 1
+    } else {
+        end
+    }
 }
 
 /// The end of the bad item that begins at `from`, before `end`: past the first `;` or the first brace group at its depth,
 /// whichever ends first, else `end`. `pairs` are the partners that `brackets` gives.
 #[tactic(auto, unfolding(crate::specs::Brackets::bad_from))]
-pub fn bad_extent(tokens: &[PpToken], pairs: &[u32], from: u32, end: u32) -> u32
+pub fn bad_extent(tokens: &[PpToken], pairs: &List<u32>, from: u32, end: u32) -> u32
     ensures { result ≡ b.bad_extent tokens.now pairs.now from end }
 {
     let mut at = from as usize;

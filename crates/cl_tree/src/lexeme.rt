@@ -33,7 +33,8 @@ fn is_brace(tokens: &[PpToken], at: usize) -> bool
     ensures { result ≡ l.is_brace tokens.now at }
 {
     match tokens.get(at) {
-        Some(token) => token.text.bytes() == b"{".as_slice() || token.text.bytes() == b"<%".as_slice(),
+        Some(token) => token.text.bytes() == b"{".as_slice()
+            || token.text.bytes() == b"<%".as_slice(),
         None => false,
     }
 }
@@ -49,12 +50,23 @@ fn is_literal(tokens: &[PpToken], pairs: &[u32], at: usize) -> bool
 }
 
 /// A token as the grammar reads it.
-fn read_lexeme(alloc: Global, tokens: &[PpToken], pairs: &[u32], typedefs: &NameSet, token: &PpToken, at: usize) -> Mem<Lexeme>
+fn read_lexeme(
+    alloc: Global,
+    tokens: &[PpToken],
+    pairs: &[u32],
+    typedefs: &NameSet,
+    token: &PpToken,
+    at: usize,
+) -> Mem<Lexeme>
     requires { at < 2 ^ 32 }
     ensures { IfOk result (λ it. it ≡ l.lexeme_of typedefs.now pairs.now tokens.now at token.now) }
 {
     let sort = sort_of(token);
-    let shape = shape_of(sort.raw, ahead_at(tokens, at + 1), is_literal(tokens, pairs, at));
+    let shape = shape_of(
+        sort.raw,
+        ahead_at(tokens, at + 1),
+        is_literal(tokens, pairs, at),
+    );
     let typed = typedefs.has(&token.text);
     let text = token.text.duplicate(alloc)?;
     Ok(Lexeme { shape, typed, text })
@@ -63,7 +75,12 @@ fn read_lexeme(alloc: Global, tokens: &[PpToken], pairs: &[u32], typedefs: &Name
 /// The tokens as the grammar reads them, where `pairs` are the partners of the brackets and these names are typedef names
 /// before the first token.
 #[tactic(auto, unfolding(crate::specs::Lexemes::lexemes))]
-pub fn lexemes(alloc: Global, tokens: &[PpToken], pairs: &[u32], typedefs: &NameSet) -> Mem<List<Lexeme>>
+pub fn lexemes(
+    alloc: Global,
+    tokens: &[PpToken],
+    pairs: &[u32],
+    typedefs: &NameSet,
+) -> Mem<List<Lexeme>>
     requires { length tokens.now < 2 ^ 32 }
     ensures { IfOk result (λ all. all ≡ l.lexemes typedefs.now pairs.now tokens.now) }
 {

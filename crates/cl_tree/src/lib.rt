@@ -6,6 +6,8 @@ mod class;
 mod grammar;
 mod lexeme;
 mod nonterminal;
+mod part_rows;
+mod production_rows;
 mod rule;
 mod scope;
 mod set;
@@ -13,12 +15,13 @@ mod shape;
 mod spelling;
 mod tree;
 
-
 pub use bracket::{bad_extent, brackets};
 pub use class::Class;
-pub use grammar::{Act, Again, Part, Production, Separator, Symbol, Terminal, Unit, agains, parts, productions, units};
+pub use grammar::{Act, Again, Part, Production, Separator, Span, Symbol, Terminal, Unit};
 pub use lexeme::{Lexeme, lexemes};
 pub use nonterminal::Nonterminal;
+pub use part_rows::{agains, parts};
+pub use production_rows::{productions, units};
 pub use rule::Rule;
 pub use scope::{Change, Frame, Scope, class_at, pass};
 pub use set::NameSet;

@@ -116,7 +116,11 @@ fn word_class(typed: bool, colon: bool) -> Class
     ensures { result ≡ s.word_class typed colon }
 {
     if typed {
-        if colon { Class::TypedefColon } else { Class::TypedefName }
+        if colon {
+            Class::TypedefColon
+        } else {
+            Class::TypedefName
+        }
     } else if colon {
         Class::IdentColon
     } else {
@@ -129,7 +133,11 @@ fn paren_class(types: bool, literal: bool) -> Class
     ensures { result ≡ s.paren_class types literal }
 {
     if types {
-        if literal { Class::LiteralParen } else { Class::TypeParen }
+        if literal {
+            Class::LiteralParen
+        } else {
+            Class::TypeParen
+        }
     } else {
         Class::LeftParen
     }
@@ -146,7 +154,10 @@ pub fn class_at(tokens: &[Lexeme], scope: &Scope, at: u32) -> Option<Class>
     let changes = scope.changes.as_slice();
     let class = match token.shape {
         Shape::Fixed(class) => class,
-        Shape::Word(colon) => word_class(known(tokens, changes, token.typed, token.text.bytes()), colon),
+        Shape::Word(colon) => word_class(
+            known(tokens, changes, token.typed, token.text.bytes()),
+            colon,
+        ),
         Shape::Paren(literal, types) => {
             paren_class(types || typed_at(tokens, changes, at as usize + 1), literal)
         }
@@ -155,7 +166,12 @@ pub fn class_at(tokens: &[Lexeme], scope: &Scope, at: u32) -> Option<Class>
 }
 
 /// The declarations, with one more where it changes what the name is.
-fn declared(tokens: &[Lexeme], changes: List<Change>, name: Option<u32>, typed: bool) -> Mem<List<Change>>
+fn declared(
+    tokens: &[Lexeme],
+    changes: List<Change>,
+    name: Option<u32>,
+    typed: bool,
+) -> Mem<List<Change>>
     ensures { IfOk result (λ after. after ≡ s.declared tokens.now changes name typed) }
 {
     let Some(at) = name else {

@@ -1,4 +1,3 @@
-use Rattle.cl_base.specs.declared.token.PpToken.{PpToken}
 use Rattle.cl_tree.specs.Brackets.{brackets}
 use Rattle.cl_tree.specs.Lexemes.{lexemes}
 use Rattle.cl_expr.proofs.Bridge.{of_derives}

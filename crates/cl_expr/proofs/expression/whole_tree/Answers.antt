@@ -1,8 +1,6 @@
-use Rattle.std.proofs.Common.{◌≡◌, arith, refl, sym, ◌∙◌, ap, subst}
-use Rattle.std.specs.Prelude.{None, Some, Option, length}
-use Rattle.cl_tree.specs.declared.scope.Scope.{Scope}
-use Rattle.cl_tree.specs.declared.tree.Tree.{Tree, out-Tree}
-use Rattle.cl_tree.specs.Derives.{Spans, end}
+use Rattle.std.proofs.Common.{◌≡◌, ◌∙◌, ap}
+use Rattle.std.specs.Prelude.{Some}
+use Rattle.cl_tree.specs.Derives.{end}
 use Rattle.cl_expr.proofs.Bridge.{to_derives, of_derives}
 use Rattle.cl_expr.proofs.Climb.{whole_found, whole_only}
 use Rattle.cl_expr.proofs.expression.whole_tree.Goals as goal
@@ -10,7 +8,7 @@ use Rattle.cl_expr.proofs.expression.whole_tree.Goals as goal
 pub returns-then-found-tokens-clause-found : goal.returns-then-found-tokens-clause-found
 returns-then-found-tokens-clause-found c =
     to_derives c.args.goal c.args.tokens.now c.in-Some.found.tree
-      (whole_found c.args.tokens.now c.args.goal c.in-Some.found (rw (c.in-Some.is, c.new.ensures) at c.in_ok-found.ensures) c.if-found-tokens.true)
+    (whole_found c.args.tokens.now c.args.goal c.in-Some.found (rw (c.in-Some.is, c.new.ensures) at c.in_ok-found.ensures) c.if-found-tokens.true)
 
 pub returns-then-found-tokens-clause-only : goal.returns-then-found-tokens-clause-only
 returns-then-found-tokens-clause-only c =

@@ -1,6 +1,4 @@
-use Rattle.std.proofs.Common.{◌≡◌, ◌≤◌, ℕ, List, sym, ◌∙◌, ap, subst, length, arith}
-use Rattle.std.specs.Prelude.{slice_range}
-use Rattle.cl_expr.specs.Table.{all_edges}
+use Rattle.std.proofs.Common.{sym, ◌∙◌}
 use Rattle.cl_expr.proofs.Rows.{edges_are, edges_lie, none_edges}
 use Rattle.cl_expr.proofs.places.edges.Goals as goal
 

@@ -1,6 +1,4 @@
-use Rattle.std.proofs.Common.{◌≡◌, ◌≤◌, ℕ, List, sym, ◌∙◌, ap, subst, length, arith}
-use Rattle.std.specs.Prelude.{slice_range}
-use Rattle.cl_expr.specs.Table.{all_firsts}
+use Rattle.std.proofs.Common.{sym, ◌∙◌}
 use Rattle.cl_expr.proofs.Rows.{firsts_are, firsts_lie, none_firsts}
 use Rattle.cl_expr.proofs.places.firsts.Goals as goal
 

@@ -1,4 +1,4 @@
-use Rattle.std.proofs.Common.{◌≡◌, sym, ◌∙◌}
+use Rattle.std.proofs.Common.{sym, ◌∙◌}
 use Rattle.cl_expr.proofs.Rows.{named_is, none_named}
 use Rattle.cl_expr.proofs.places.is_named.Goals as goal
 

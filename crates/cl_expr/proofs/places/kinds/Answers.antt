@@ -1,6 +1,4 @@
-use Rattle.std.proofs.Common.{◌≡◌, ◌≤◌, ℕ, List, sym, ◌∙◌, ap, subst, length, arith}
-use Rattle.std.specs.Prelude.{slice_range}
-use Rattle.cl_expr.specs.Table.{all_kinds}
+use Rattle.std.proofs.Common.{sym, ◌∙◌}
 use Rattle.cl_expr.proofs.Rows.{kinds_are, kinds_lie, none_kinds}
 use Rattle.cl_expr.proofs.places.kinds.Goals as goal
 

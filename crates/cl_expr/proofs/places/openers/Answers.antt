@@ -1,6 +1,4 @@
-use Rattle.std.proofs.Common.{◌≡◌, ◌≤◌, ℕ, List, sym, ◌∙◌, ap, subst, length, arith}
-use Rattle.std.specs.Prelude.{slice_range}
-use Rattle.cl_expr.specs.Table.{all_openers}
+use Rattle.std.proofs.Common.{sym, ◌∙◌}
 use Rattle.cl_expr.proofs.Rows.{openers_are, openers_lie, none_openers}
 use Rattle.cl_expr.proofs.places.openers.Goals as goal
 

@@ -1,6 +1,4 @@
-use Rattle.std.proofs.Common.{◌≡◌, ◌≤◌, ℕ, List, sym, ◌∙◌, ap, subst, length, arith}
-use Rattle.std.specs.Prelude.{slice_range}
-use Rattle.cl_expr.specs.Table.{all_suffixes}
+use Rattle.std.proofs.Common.{sym, ◌∙◌}
 use Rattle.cl_expr.proofs.Rows.{suffixes_are, suffixes_lie, none_suffixes}
 use Rattle.cl_expr.proofs.places.suffixes.Goals as goal
 

@@ -1,6 +1,6 @@
 use Rattle.std.proofs.Common.{◌≡◌, refl, sym, ◌∙◌, true, false}
 use Rattle.std.specs.Prelude.{Some, None}
-use Rattle.cl_expr.specs.Table.{turn, turning, is_named}
+use Rattle.cl_expr.specs.code.Table.{turn, turning, is_named}
 use Rattle.cl_expr.proofs.places.turn.Goals as goal
 
 pub returns-in_default : goal.returns-in_default

@@ -1,4 +1,4 @@
-use Rattle.std.proofs.Common.{◌≡◌, sym, ◌∙◌}
+use Rattle.std.proofs.Common.{sym, ◌∙◌}
 use Rattle.cl_expr.proofs.Rows.{turning_is, none_turning}
 use Rattle.cl_expr.proofs.places.turning.Goals as goal
 

@@ -1,7 +1,7 @@
-use Rattle.std.proofs.Common.{◌≡◌, refl, subst, sym}
-use Rattle.cl_expr.specs.Table.{suffixes}
+use Rattle.std.proofs.Common.{subst, sym}
+use Rattle.cl_expr.specs.code.Table.{suffixes}
 use Rattle.cl_tree.specs.Derives.{Has}
-use Rattle.cl_expr.specs.Parses.{Begins, Enters, GoesOn}
+use Rattle.cl_expr.specs.code.Parses.{GoesOn}
 use Rattle.cl_expr.proofs.Scans.{before_first, before_next, before_all, has_in}
 use Rattle.cl_expr.proofs.scan.going.Goals as goal
 

@@ -1,5 +1,4 @@
-use Rattle.std.proofs.Common.{◌≡◌}
-use Rattle.cl_expr.specs.Parses.{Begins, Enters, GoesOn}
+use Rattle.cl_expr.specs.code.Parses.{Begins}
 use Rattle.cl_expr.proofs.Scans.{Before}
 use Rattle.cl_expr.proofs.scan.look.Given as goal
 

@@ -1,4 +1,4 @@
-use Rattle.std.proofs.Common.{◌≡◌, refl, sym, ◌∙◌}
+use Rattle.std.proofs.Common.{sym, ◌∙◌}
 use denote.Enum.Bare.{same_true}
 use Rattle.cl_tree.specs.contracts.class.Class.{the_type}
 use Rattle.cl_expr.proofs.scan.same_class.Goals as goal

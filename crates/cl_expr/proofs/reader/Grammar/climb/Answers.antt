@@ -1,4 +1,4 @@
-use Rattle.std.proofs.Common.{◌≡◌, ℕ, arith, sym, ◌∙◌}
+use Rattle.std.proofs.Common.{arith}
 use Rattle.cl_expr.proofs.Climb.{climbs_start, climbs_stuck, climbs_on, climbs_end}
 use Rattle.cl_expr.proofs.Conditions.{suffix}
 use Rattle.cl_expr.proofs.reader.Grammar.climb.Goals as goal
@@ -18,7 +18,7 @@ step-requires-clause-start g c = (suffix c.args.goal c.in-Some.start c.in-Some.e
 pub returns-in_default-2 : goal.returns-in_default-2
 returns-in_default-2 g c =
     climbs_stuck c.args.self.now.tokens.now c.args.self.now.depth c.args.before.now c.args.goal c.args.first c.loop-start.left c.loop-start.invariant
-      c.in-Some.start c.in-Some.ensures.some.0 c.in-Some.ensures.some.1 (rw c.in_default-2.is at c.in_ok-next.ensures)
+    c.in-Some.start c.in-Some.ensures.some.0 c.in-Some.ensures.some.1 (rw c.in_default-2.is at c.in_ok-next.ensures)
 
 pub loop-start-smaller : goal.loop-start-smaller
 loop-start-smaller g c = let p = (rw c.in-Some-2.is at c.in_ok-next.ensures) in let f = p.found in omega (arith, f.2, f.0.within)
@@ -26,9 +26,9 @@ loop-start-smaller g c = let p = (rw c.in-Some-2.is at c.in_ok-next.ensures) in 
 pub loop-start-preserved : goal.loop-start-preserved
 loop-start-preserved g c =
     climbs_on c.args.self.now.tokens.now c.args.self.now.depth c.args.before.now c.args.goal c.args.first c.loop-start.left c.loop-start.invariant
-      c.in-Some.start c.in-Some.ensures.some.0 c.in-Some.ensures.some.1 c.in-Some-2.next (rw c.in-Some-2.is at c.in_ok-next.ensures)
+    c.in-Some.start c.in-Some.ensures.some.0 c.in-Some.ensures.some.1 c.in-Some-2.next (rw c.in-Some-2.is at c.in_ok-next.ensures)
 
 pub returns : goal.returns
 returns g c =
     climbs_end c.args.self.now.tokens.now c.args.self.now.depth c.args.before.now c.args.goal c.args.first c.loop-start.left c.loop-start.invariant
-      (λ s h n. c.going.ensures.none c.in_default.is s h n)
+    (λ s h n. c.going.ensures.none c.in_default.is s h n)

@@ -1,4 +1,4 @@
-use Rattle.std.proofs.Common.{ℕ, ◌-◌, length}
+use Rattle.std.proofs.Common.{◌-◌, length}
 use Rattle.cl_tree.specs.Derives.{end}
 use Rattle.cl_expr.proofs.Climb.{Climbing}
 use Rattle.cl_expr.proofs.reader.Grammar.climb.Given as goal

@@ -1,4 +1,4 @@
-use Rattle.std.proofs.Common.{ℕ, ◌-◌, length}
+use Rattle.std.proofs.Common.{◌-◌, length}
 use Rattle.cl_expr.proofs.Reading.{Reading}
 use Rattle.cl_expr.proofs.reader.Grammar.read.Given as goal
 

@@ -1,4 +1,4 @@
-use Rattle.std.proofs.Common.{◌≡◌, arith, sym, ◌∙◌, subst}
+use Rattle.std.proofs.Common.{arith, sym, ◌∙◌}
 use Rattle.cl_expr.proofs.Within.{class_within}
 use Rattle.cl_expr.proofs.reader.Grammar.separated.Goals as goal
 

@@ -1,6 +1,5 @@
-use Rattle.std.proofs.Common.{◌≡◌}
 use Rattle.std.specs.Prelude.{None}
-use Rattle.cl_expr.specs.Parses.{Part, Parses}
+use Rattle.cl_expr.specs.code.Parses.{Part, Parses}
 use Rattle.cl_tree.specs.declared.grammar.Symbol.TheVariants.{Node}
 use Rattle.cl_expr.proofs.Reading.{part_node}
 use Rattle.cl_expr.proofs.Climb.{ok_map}
@@ -12,5 +11,5 @@ returns-in-Token g c = rw c.in-Token.is c.token.ensures
 pub returns-in-Node : goal.returns-in-Node
 returns-in-Node g c =
     rw c.in-Node.is
-      (ok_map (Parses c.args.self.now.tokens.now c.args.self.now.depth c.args.scope c.in-Node.goal c.args.at) (Part c.args.self.now.tokens.now c.args.self.now.depth c.args.scope None (Node c.in-Node.goal) c.args.at) c.nonterminal.result
-        (λ o p. part_node c.args.self.now.tokens.now c.args.self.now.depth c.args.scope c.in-Node.goal c.args.at o p) c.nonterminal.ensures)
+    (ok_map (Parses c.args.self.now.tokens.now c.args.self.now.depth c.args.scope c.in-Node.goal c.args.at) (Part c.args.self.now.tokens.now c.args.self.now.depth c.args.scope None (Node c.in-Node.goal) c.args.at) c.nonterminal.result
+    (λ o p. part_node c.args.self.now.tokens.now c.args.self.now.depth c.args.scope c.in-Node.goal c.args.at o p) c.nonterminal.ensures)

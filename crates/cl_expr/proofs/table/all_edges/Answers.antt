@@ -1,7 +1,0 @@
-use Rattle.std.proofs.Common.{refl}
-use Rattle.cl_expr.specs.Table.{places, all_edges}
-use Rattle.cl_expr.proofs.table.all_edges.Goals as goal
-
-pub returns : goal.returns
-unfolding places all_edges
-returns c = refl

@@ -1,7 +1,0 @@
-use Rattle.std.proofs.Common.{refl}
-use Rattle.cl_expr.specs.Table.{goals, goal_rows}
-use Rattle.cl_expr.proofs.table.goal_rows.Goals as goal
-
-pub returns : goal.returns
-unfolding goals goal_rows
-returns c = refl

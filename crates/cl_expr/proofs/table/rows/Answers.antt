@@ -1,7 +1,0 @@
-use Rattle.std.proofs.Common.{refl}
-use Rattle.cl_expr.specs.Table.{places, rows}
-use Rattle.cl_expr.proofs.table.rows.Goals as goal
-
-pub returns : goal.returns
-unfolding places rows
-returns c = refl

@@ -1,0 +1,61 @@
+-- The parser's own view of a tree: its parts lie on a way through the places of its production. proofs/Bridge shows that such trees are those that derive.
+use Rattle.std.specs.Prelude.{◌≡◌, ℕ, zero, suc, ◌+◌, ◌≤◌, List, [], ◌∷◌, Option, Some, None, length}
+use Rattle.cl_tree.specs.declared.class.Class.{Class}
+use Rattle.cl_tree.specs.declared.nonterminal.Nonterminal.{Nonterminal}
+use Rattle.cl_tree.specs.declared.grammar.Symbol.{Symbol}
+use Rattle.cl_tree.specs.declared.grammar.Symbol.TheVariants.{Token, Node}
+use Rattle.cl_tree.specs.declared.grammar.Separator.{Separator}
+use Rattle.cl_tree.specs.declared.tree.Tree.{Tree, out-Tree, roll-Tree}
+use Rattle.cl_tree.specs.declared.lexeme.Lexeme.{Lexeme}
+use Rattle.cl_tree.specs.declared.scope.Scope.{Scope}
+use Rattle.cl_tree.specs.Grammar.{takes}
+use Rattle.cl_tree.specs.Scopes.{empty, class_at, pass}
+use Rattle.cl_tree.specs.Derives.{Has, start, end, parts, leaf}
+use Rattle.cl_expr.specs.declared.table.Edge.{Edge}
+use Rattle.cl_expr.specs.declared.table.Label.{Label}
+use Rattle.cl_expr.specs.code.Table.{edges, name_of, bars, turn, home, kinds}
+
+abbrev pub name : Tree → Label
+name t = record { rule = (out-Tree t).rule; choice = (out-Tree t).choice }
+
+-- the node of a label and parts
+abbrev pub node : Label → ℕ → ℕ → List Tree → Tree
+node n from to ps = roll-Tree (record { rule = n.rule; choice = n.choice; from = from; to = to; parts = ps })
+
+-- the production may end at a place of it, before the token that stands there
+abbrev pub Ended : List Lexeme → Scope → ℕ → ℕ → Label → Type 0
+Ended cs s z to n = (name_of z ≡ Some n) × ((k : Class) → class_at cs s to ≡ Some k → Has (bars z) k → ⊥)
+
+module _ (D : Nonterminal → ℕ → Scope → Tree → Scope → Type 0) (h : ℕ) (cs : List Lexeme) where
+  -- a part that a symbol stands for, of a kind and with a height of at most h, and what is declared after it
+  abbrev pub Reads : Symbol → ℕ → Scope → ℕ → Tree → Scope → Type 0
+  Reads (Token k a) y s at p w = (y ≡ 0) × (1 ≤ h) × (p ≡ leaf at) × ((c : Class) × (class_at cs s at ≡ Some c) × Has (takes k) c) × (w ≡ pass cs s a at)
+  Reads (Node g) y s at p w = D g y s p w × (start p ≡ at)
+
+  -- the same after a separator, if one is asked for
+  abbrev pub ReadsAfter : Option Separator → Symbol → ℕ → Scope → ℕ → Tree → Scope → Type 0
+  ReadsAfter None x y s at p w = Reads x y s at p w
+  ReadsAfter (Some b) x y s at p w = (class_at cs s at ≡ Some b.class) × Reads x y (pass cs s b.act at) (at + 1) p w
+
+  -- the parts lead from one place of a production to another, and from what is declared at the one to what is at the other
+  abbrev pub Path : ℕ → Scope → ℕ → ℕ → List Tree → ℕ → Scope → Type 0
+  Path q s at to [] z v = (at ≡ to) × (q ≡ z) × (s ≡ v)
+  Path q s at to (p ∷ ps) z v = (e : Edge) × (y : ℕ) × (w : Scope) × Has (edges q) e × ReadsAfter e.before e.symbol y s at p w × Path (turn e.next y) w (end p) to ps z v
+
+-- a tree of a kind, which is the place where its production ends; its height is at most h; s is declared before it, w after it
+unfoldable pub Kind : List Lexeme → ℕ → ℕ → Scope → Tree → Scope → Type 0
+Kind cs zero z s t w = ⊥
+Kind cs (suc h) z s t w =
+    Ended cs w z (end t) (name t) × Path (λ g y s' p w'. Has (kinds g) y × Kind cs h y s' p w') h cs (home z) s (start t) (end t) (parts t) z w
+
+-- a tree of a nonterminal
+abbrev pub At : List Lexeme → ℕ → Nonterminal → ℕ → Scope → Tree → Scope → Type 0
+At cs h g z s t w = Has (kinds g) z × Kind cs h z s t w
+
+-- the tree is one of the nonterminal on all of the tokens, of a height of at most 512
+pub record Whole (g : Nonterminal) (cs : List Lexeme) (t : Tree) : Type 0 where
+  pub kind : ℕ
+  pub after : Scope
+  pub at : At cs 512 g kind empty t after
+  pub from : start t ≡ 0
+  pub to : end t ≡ length cs

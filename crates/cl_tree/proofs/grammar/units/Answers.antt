@@ -1,7 +1,0 @@
-use Rattle.std.proofs.Common.{refl}
-use Rattle.cl_tree.specs.Grammar.{units}
-use Rattle.cl_tree.proofs.grammar.units.Goals as goal
-
-pub returns : goal.returns
-unfolding units
-returns c = refl
