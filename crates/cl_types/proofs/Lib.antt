@@ -1,4 +1,5 @@
 pub mod CompatibleLemmas
+pub mod CompositeLemmas
 pub mod Induction
 pub mod OwnLemmas
 pub mod PromotedLemmas
