@@ -104,7 +104,11 @@ fn texts(rt: HostRuntime) -> Result<(), Fail> {
         (21, "", "pasting gives no token", 1),
         (23, "", "invalid #line", 1),
         (0, "", "", 1),
-        (24, "", "", 1),
+        (24, "", "stray token", 1),
+        (32, "S", "'S' is another kind of tag", 1),
+        (45, "l", "invalid label 'l'", 1),
+        (48, "", "invalid initializer", 1),
+        (49, "", "", 1),
     ];
     for (number, name, wanted, severity) in rows {
         let one = diag(alloc, &(0, 0, number, 1, name))?;
