@@ -1,14 +1,14 @@
 -- Compatibility is symmetric and reflexive.
-use Rattle.std.proofs.Common.{◌≡◌, ℕ, ◌==◌, ◌&&◌, not, Bool, true, false, List, [], ◌∷◌, length, map, Option, Some, None, refl, sym, ap, ◌∙◌, arith}
+use Rattle.std.proofs.Common.{◌≡◌, ℕ, ◌==◌, ◌&&◌, not, Bool, true, false, List, [], ◌∷◌, length, map, Option, refl, sym, ap, ◌∙◌, arith}
 use Rattle.std.proofs.lemmas.Grind.{common_steps}
 use Rattle.cl_types.specs.declared.types.Length.{Length}
 use Rattle.cl_types.specs.declared.types.Length.TheVariants as length_of
 use Rattle.cl_types.specs.declared.types.CType.{CType}
-use Rattle.cl_types.specs.declared.types.CType.TheFolds.{fold-Params, fold_out-CType, fold_out-Params, map-CType, map-Params}
+use Rattle.cl_types.specs.declared.types.CType.TheFolds.{fold_out-CType, fold_out-Params, map-CType, map-Params}
 use Rattle.cl_types.specs.declared.types.CType.TheOpen.{CType-F, Params-F}
-use Rattle.cl_types.specs.declared.types.CType.TheViews.{out-CType, out-Params, roll-CType, the_lemmas}
+use Rattle.cl_types.specs.declared.types.CType.TheViews.{out-CType, out-Params}
 use Rattle.cl_types.specs.declared.types.Params.{Params}
-use Rattle.cl_types.specs.Compatible.{Compared, agree, all_promoted, bare_by, both_or_none, compared, compared_by, compatible, promoted, same, same_each, same_listed, same_params}
+use Rattle.cl_types.specs.Compatible.{Compared, agree, all_promoted, bare_by, both_or_none, compared, compared_by, compatible, same, same_each, same_listed}
 use Rattle.cl_types.specs.Form.{Form, Form as f, form, listed, unqualified, unqualified_by}
 use Rattle.cl_types.proofs.Induction.{by_forms, Inside, Each, EachOf}
 use Rattle.cl_types.proofs.PromotedLemmas.{compared_params, all_promoted_agrees}

@@ -1,17 +1,17 @@
 -- A composite type is compatible with both of its types.
-use Rattle.std.proofs.Common.{◌≡◌, ℕ, ◌==◌, ◌&&◌, not, Bool, true, false, List, [], ◌∷◌, length, map, Option, Some, None, refl, sym, ap, ◌∙◌, arith, rules}
+use Rattle.std.proofs.Common.{◌≡◌, ℕ, ◌==◌, ◌&&◌, Bool, true, false, List, [], ◌∷◌, length, map, Option, Some, None, refl, sym, ap, ◌∙◌, arith, rules}
 use Rattle.std.proofs.lemmas.Grind.{common_steps}
 use Rattle.cl_types.specs.declared.types.Length.{Length}
 use Rattle.cl_types.specs.declared.types.Length.TheVariants as length_of
 use Rattle.cl_types.specs.declared.types.CType.{CType}
 use Rattle.cl_types.specs.declared.types.CType.TheFolds.{fold-Params, fold_out-CType, fold_out-Params, map-CType, map-Params}
-use Rattle.cl_types.specs.declared.types.CType.TheOpen.{CType-F, Params-F}
+use Rattle.cl_types.specs.declared.types.CType.TheOpen.{Params-F}
 use Rattle.cl_types.specs.declared.types.CType.TheVariants as make
 use Rattle.cl_types.specs.declared.types.CType.TheViews.{out-CType, out-Params, roll-Params, the_lemmas}
 use Rattle.cl_types.specs.declared.types.Params.{Params}
 use Rattle.cl_types.specs.declared.types.Params.TheVariants as make_params
-use Rattle.cl_types.specs.Compatible.{Compared, agree, all_promoted, both_or_none, compared, compatible, promoted, same, same_each, same_listed}
-use Rattle.cl_types.specs.Composite.{Composed, compose, compose_bare, compose_each, compose_listed, composed, composed_by, composed_params, composite, longer, own_by, own_listed}
+use Rattle.cl_types.specs.Compatible.{Compared, agree, both_or_none, compared, compatible, same, same_each, same_listed}
+use Rattle.cl_types.specs.Composite.{Composed, compose, compose_bare, compose_each, compose_listed, composed, composed_by, composed_params, composite, longer, own_listed}
 use Rattle.cl_types.specs.Form.{Form, Form as f, form, listed, unqualified, unqualified_by}
 use Rattle.cl_types.specs.Normal.{Normal, all_hold, listed_hold, normal, normal_by, is_normal}
 use Rattle.cl_types.specs.code.Pairs.{is_qualified, is_qualified_by}
@@ -21,22 +21,22 @@ use Rattle.cl_types.proofs.OwnLemmas.{composed_out, own_of, own_parameters}
 use Rattle.cl_types.proofs.PromotedLemmas.{compared_params}
 
 -- tests that both hold
-left_true : (a b : Bool) → (a && b) ≡ true → a ≡ true
+pub left_true : (a b : Bool) → (a && b) ≡ true → a ≡ true
 left_true true b h = refl
 left_true false b h = cc
 
-right_true : (a b : Bool) → (a && b) ≡ true → b ≡ true
+pub right_true : (a b : Bool) → (a && b) ≡ true → b ≡ true
 right_true true b h = h
 right_true false b h = cc
 
-both_true : (a b : Bool) → a ≡ true → b ≡ true → (a && b) ≡ true
+pub both_true : (a b : Bool) → a ≡ true → b ≡ true → (a && b) ≡ true
 both_true a b g h = and_both a b true true g h
 
 -- composite types layer beside layer
-abbrev whole_parts : Form CType Params → Form Composed (Option (List Composed × Bool))
+abbrev pub whole_parts : Form CType Params → Form Composed (Option (List Composed × Bool))
 whole_parts = map_form composed composed_params
 
-composite_layers : (a b : CType) → composite a b ≡ compose a (whole_parts (form (out-CType a))) b (form (out-CType b))
+pub composite_layers : (a b : CType) → composite a b ≡ compose a (whole_parts (form (out-CType a))) b (form (out-CType b))
 composite_layers a b =
     ap (λ (c : Composed). c.whole b) (composed_out a)
     ∙ ap (λ (o : CType). compose o (form (map-CType CType Params Composed (Option (List Composed × Bool)) composed composed_params (out-CType a))) b (form (out-CType b))) (own_of a)
@@ -48,7 +48,7 @@ bare_form (f.Qualified q t) a b e = refl
 bare_form f.Void a b e = e
 bare_form _ a b e = e
 
-bare_composite : (a b : CType) → (composed a).bare b ≡ composite (unqualified a) (unqualified b)
+pub bare_composite : (a b : CType) → (composed a).bare b ≡ composite (unqualified a) (unqualified b)
 bare_composite a b =
     ap (λ (c : Composed). c.bare b) (composed_out a)
     ∙ ap (λ (o : CType). compose_bare o (form (map-CType CType Params Composed (Option (List Composed × Bool)) composed composed_params (out-CType a))) b) (own_of a)
@@ -56,21 +56,21 @@ bare_composite a b =
     ∙ bare_form (form (out-CType a)) a b (sym (composite_layers a (unqualified b)))
 
 -- normal form layer beside layer
-abbrev normal_params : Params → Option (List Normal × Bool)
+abbrev pub normal_params : Params → Option (List Normal × Bool)
 normal_params = fold-Params Normal (Option (List Normal × Bool)) (λ l. normal_by (form l)) listed
 
-abbrev normal_parts : Form CType Params → Form Normal (Option (List Normal × Bool))
+abbrev pub normal_parts : Form CType Params → Form Normal (Option (List Normal × Bool))
 normal_parts = map_form normal normal_params
 
-normal_layers : (a : CType) → normal a ≡ normal_by (normal_parts (form (out-CType a)))
+pub normal_layers : (a : CType) → normal a ≡ normal_by (normal_parts (form (out-CType a)))
 normal_layers a =
     fold_out-CType Normal (Option (List Normal × Bool)) (λ l. normal_by (form l)) listed a
     ∙ ap normal_by (form_map CType Params Normal (Option (List Normal × Bool)) normal normal_params (out-CType a))
 
-abbrev IsGood : Form CType Params → Type 0
+abbrev pub IsGood : Form CType Params → Type 0
 IsGood l = (normal_by (normal_parts l)).holds ≡ true
 
-good_of : (a : CType) (l : Form CType Params) → form (out-CType a) ≡ l → is_normal a ≡ true → IsGood l
+pub good_of : (a : CType) (l : Form CType Params) → form (out-CType a) ≡ l → is_normal a ≡ true → IsGood l
 good_of a l e h =
     sym (ap (λ (n : Normal). n.holds) (normal_layers a) ∙ ap (λ (m : Form CType Params). (normal_by (normal_parts m)).holds) e) ∙ h
 
@@ -95,7 +95,7 @@ inner_form (f.Tag n w) a e g h = (h, ap is_qualified_by e)
 inner_form (f.Atomic t) a e g h = (h, ap is_qualified_by e)
 inner_form f.Error a e g h = (h, ap is_qualified_by e)
 
-inner_type : (a : CType) → is_normal a ≡ true → (is_normal (unqualified a) ≡ true) × (is_qualified (unqualified a) ≡ false)
+pub inner_type : (a : CType) → is_normal a ≡ true → (is_normal (unqualified a) ≡ true) × (is_qualified (unqualified a) ≡ false)
 inner_type a h = inner_form (form (out-CType a)) a refl (good_of a (form (out-CType a)) refl h) h
 
 itself_form : (l : Form CType Params) (a : CType) → is_qualified_by l ≡ false → unqualified_by l a ≡ a
@@ -107,22 +107,22 @@ unqualified_itself : (a : CType) → is_qualified a ≡ false → unqualified a 
 unqualified_itself a h = itself_form (form (out-CType a)) a h
 
 -- the layer of a made type
-out_pointer : (t : CType) → form (out-CType (make.Pointer t)) ≡ f.Pointer t
+pub out_pointer : (t : CType) → form (out-CType (make.Pointer t)) ≡ f.Pointer t
 out_pointer t = search (rules, the_lemmas)
 
-out_array : (t : CType) (n : Length) → form (out-CType (make.Array t n)) ≡ f.Array t n
+pub out_array : (t : CType) (n : Length) → form (out-CType (make.Array t n)) ≡ f.Array t n
 out_array t n = search (rules, the_lemmas)
 
-out_function : (t : CType) (ps : Params) → form (out-CType (make.Function t ps)) ≡ f.Function t ps
+pub out_function : (t : CType) (ps : Params) → form (out-CType (make.Function t ps)) ≡ f.Function t ps
 out_function t ps = search (rules, the_lemmas)
 
-out_qualified : (q : ℕ) (t : CType) → form (out-CType (make.Qualified q t)) ≡ f.Qualified q t
+pub out_qualified : (q : ℕ) (t : CType) → form (out-CType (make.Qualified q t)) ≡ f.Qualified q t
 out_qualified q t = search (rules, the_lemmas)
 
-out_atomic : (t : CType) → form (out-CType (make.Atomic t)) ≡ f.Atomic t
+pub out_atomic : (t : CType) → form (out-CType (make.Atomic t)) ≡ f.Atomic t
 out_atomic t = search (rules, the_lemmas)
 
-out_proto : (ts : List CType) (v : Bool) → out-Params (make_params.Proto ts v) ≡ Params-F.Proto ts v
+pub out_proto : (ts : List CType) (v : Bool) → out-Params (make_params.Proto ts v) ≡ Params-F.Proto ts v
 out_proto ts v = search (rules, the_lemmas)
 
 unqualified_form : (l m : Form CType Params) (a b : CType) → is_qualified_by l ≡ false → is_qualified a ≡ false → is_qualified b ≡ false →
@@ -155,7 +155,7 @@ abbrev Fitting : CType → Type 0
 Fitting a = IsFitting a × IsFitting (unqualified a)
 
 -- parameters
-abbrev together : List CType → List CType → List CType
+abbrev pub together : List CType → List CType → List CType
 together ts us = compose_each (map composed ts) us
 
 same_count : (ts us : List CType) → (length (map compared ts) == length us) ≡ true → ((length (map compared (together ts us)) == length ts) ≡ true) × ((length (map compared (together ts us)) == length us) ≡ true)
@@ -169,7 +169,7 @@ one_fits : (t u : CType) → IsFitting (unqualified t) → is_normal t ≡ true 
 one_fits t u w g k h =
     let fits : FitsBoth (composite (unqualified t) (unqualified u)) (unqualified t) (unqualified u) = w (unqualified u) (inner_type t g).0 (inner_type u k).0 h in
     let e : unqualified ((composed t).bare u) ≡ composite (unqualified t) (unqualified u) =
-        ap unqualified (bare_composite t u) ∙ unqualified_itself (composite (unqualified t) (unqualified u)) (composite_unqualified (unqualified t) (unqualified u) (inner_type t g).1 (inner_type u k).1) in
+    ap unqualified (bare_composite t u) ∙ unqualified_itself (composite (unqualified t) (unqualified u)) (composite_unqualified (unqualified t) (unqualified u) (inner_type t g).1 (inner_type u k).1) in
     (ap (λ (c : CType). compatible c (unqualified t)) e ∙ fits.0, ap (λ (c : CType). compatible c (unqualified u)) e ∙ fits.1)
 
 each_fits : (ts us : List CType) → Each Fitting ts → all_hold (map normal ts) ≡ true → all_hold (map normal us) ≡ true → alike ts us ≡ true →
@@ -184,12 +184,12 @@ each_fits (t ∷ ts) (u ∷ us) w g k h =
 params_out : (ps : Params) (y : Params-F CType Params) → out-Params ps ≡ y → compared_params ps ≡ listed (map-Params CType Params Compared (Option (List Compared × Bool)) compared compared_params y)
 params_out ps y e = listed_out ps ∙ ap (λ (z : Params-F CType Params). listed (map-Params CType Params Compared (Option (List Compared × Bool)) compared compared_params z)) e
 
-composed_params_out : (ps : Params) (y : Params-F CType Params) → out-Params ps ≡ y → composed_params ps ≡ listed (map-Params CType Params Composed (Option (List Composed × Bool)) composed composed_params y)
+pub composed_params_out : (ps : Params) (y : Params-F CType Params) → out-Params ps ≡ y → composed_params ps ≡ listed (map-Params CType Params Composed (Option (List Composed × Bool)) composed composed_params y)
 composed_params_out ps y e =
     fold_out-Params Composed (Option (List Composed × Bool)) composed_by listed ps
     ∙ ap (λ (z : Params-F CType Params). listed (map-Params CType Params Composed (Option (List Composed × Bool)) composed composed_params z)) e
 
-normal_params_out : (ps : Params) (y : Params-F CType Params) → out-Params ps ≡ y → normal_params ps ≡ listed (map-Params CType Params Normal (Option (List Normal × Bool)) normal normal_params y)
+pub normal_params_out : (ps : Params) (y : Params-F CType Params) → out-Params ps ≡ y → normal_params ps ≡ listed (map-Params CType Params Normal (Option (List Normal × Bool)) normal normal_params y)
 normal_params_out ps y e =
     fold_out-Params Normal (Option (List Normal × Bool)) (λ l. normal_by (form l)) listed ps
     ∙ ap (λ (z : Params-F CType Params). listed (map-Params CType Params Normal (Option (List Normal × Bool)) normal normal_params z)) e
@@ -201,7 +201,7 @@ params_layers cs ps y z e g =
     ap (λ (l : Option (List Compared × Bool)). same_listed l (listed (out-Params ps))) (params_out cs y e)
     ∙ ap (λ (k : Params-F CType Params). same_listed (listed (map-Params CType Params Compared (Option (List Compared × Bool)) compared compared_params y)) (listed k)) g
 
-abbrev joint : Params → Params → Params
+abbrev pub joint : Params → Params → Params
 joint ps qs = compose_listed (composed_params ps) (listed (out-Params qs))
 
 abbrev FitsParams : Params → Params → Params → Type 0
@@ -218,15 +218,16 @@ proto_fit : (ts us : List CType) (v u : Bool) → Each Fitting ts → all_hold (
 proto_fit ts us v u w g k h =
     let lists : (length (map compared ts) == length us && same_each (map compared ts) us) ≡ true = right_true _ _ h in
     let counts = same_count ts us (left_true _ _ lists) in
-    let items = each_fits ts us w g k (sym (same_alike ts us) ∙ right_true _ _ lists) in
-    (both_true _ _ (more_fit v u (left_true _ _ h)) (both_true _ _ counts.0 (same_alike (together ts us) ts ∙ items.0)),
-     both_true _ _ (left_true _ _ h) (both_true _ _ counts.1 (same_alike (together ts us) us ∙ items.1)))
+    let items = each_fits ts us w g k (sym (same_alike ts us) ∙ right_true _ _ lists) in (
+      both_true _ _ (more_fit v u (left_true _ _ h)) (both_true _ _ counts.0 (same_alike (together ts us) ts ∙ items.0)),
+      both_true _ _ (left_true _ _ h) (both_true _ _ counts.1 (same_alike (together ts us) us ∙ items.1)),
+    )
 
-unlisted : (l : Option (List Composed × Bool)) → compose_listed l None ≡ own_listed l
+pub unlisted : (l : Option (List Composed × Bool)) → compose_listed l None ≡ own_listed l
 unlisted None = refl
 unlisted (Some p) = refl
 
-proto_of : (qs : Params) (us : List CType) (u : Bool) → out-Params qs ≡ Params-F.Proto us u → make_params.Proto us u ≡ qs
+pub proto_of : (qs : Params) (us : List CType) (u : Bool) → out-Params qs ≡ Params-F.Proto us u → make_params.Proto us u ≡ qs
 proto_of qs us u g = search (rules, the_lemmas) ∙ sym (ap roll-Params g) ∙ search (rules, the_lemmas)
 
 joint_fits : (ps qs : Params) (y z : Params-F CType Params) → out-Params ps ≡ y → out-Params qs ≡ z → EachOf Fitting y →
@@ -234,25 +235,27 @@ joint_fits : (ps qs : Params) (y z : Params-F CType Params) → out-Params ps �
     same_listed (compared_params ps) (listed (out-Params qs)) ≡ true → FitsParams (joint ps qs) ps qs
 joint_fits ps qs (Params-F.Proto ts v) (Params-F.Proto us u) e g w m n h =
     let made : joint ps qs ≡ make_params.Proto (together ts us) v =
-        ap (λ (l : Option (List Composed × Bool)). compose_listed l (listed (out-Params qs))) (composed_params_out ps _ e)
-        ∙ ap (λ (k : Params-F CType Params). compose_listed (Some (map composed ts, v)) (listed k)) g in
+    ap (λ (l : Option (List Composed × Bool)). compose_listed l (listed (out-Params qs))) (composed_params_out ps _ e)
+    ∙ ap (λ (k : Params-F CType Params). compose_listed (Some (map composed ts, v)) (listed k)) g in
     let outs : out-Params (joint ps qs) ≡ Params-F.Proto (together ts us) v = ap out-Params made ∙ out_proto (together ts us) v in
     let fits = proto_fit ts us v u w
-        (sym (ap listed_hold (normal_params_out ps _ e)) ∙ m) (sym (ap listed_hold (normal_params_out qs _ g)) ∙ n)
-        (sym (params_layers ps qs _ _ e g) ∙ h) in
+    (sym (ap listed_hold (normal_params_out ps _ e)) ∙ m) (sym (ap listed_hold (normal_params_out qs _ g)) ∙ n)
+    (sym (params_layers ps qs _ _ e g) ∙ h) in
     (params_layers (joint ps qs) ps _ _ outs e ∙ fits.0, params_layers (joint ps qs) qs _ _ outs g ∙ fits.1)
 joint_fits ps qs y Params-F.NoProto e g w m n h =
     let made : joint ps qs ≡ ps =
-        ap (λ (k : Params-F CType Params). compose_listed (composed_params ps) (listed k)) g ∙ unlisted (composed_params ps) ∙ own_parameters ps in
-    (ap (λ (cs : Params). same_listed (compared_params cs) (listed (out-Params ps))) made ∙ params_itself ps,
-     ap (λ (cs : Params). same_listed (compared_params cs) (listed (out-Params qs))) made ∙ h)
+    ap (λ (k : Params-F CType Params). compose_listed (composed_params ps) (listed k)) g ∙ unlisted (composed_params ps) ∙ own_parameters ps in (
+      ap (λ (cs : Params). same_listed (compared_params cs) (listed (out-Params ps))) made ∙ params_itself ps,
+      ap (λ (cs : Params). same_listed (compared_params cs) (listed (out-Params qs))) made ∙ h,
+    )
 joint_fits ps qs Params-F.NoProto (Params-F.Proto us u) e g w m n h =
     let made : joint ps qs ≡ qs =
-        ap (λ (l : Option (List Composed × Bool)). compose_listed l (listed (out-Params qs))) (composed_params_out ps _ e)
-        ∙ ap (λ (k : Params-F CType Params). compose_listed None (listed k)) g
-        ∙ proto_of qs us u g in
-    (ap (λ (cs : Params). same_listed (compared_params cs) (listed (out-Params ps))) made ∙ params_symmetric qs ps ∙ h,
-     ap (λ (cs : Params). same_listed (compared_params cs) (listed (out-Params qs))) made ∙ params_itself qs)
+    ap (λ (l : Option (List Composed × Bool)). compose_listed l (listed (out-Params qs))) (composed_params_out ps _ e)
+    ∙ ap (λ (k : Params-F CType Params). compose_listed None (listed k)) g
+    ∙ proto_of qs us u g in (
+      ap (λ (cs : Params). same_listed (compared_params cs) (listed (out-Params ps))) made ∙ params_symmetric qs ps ∙ h,
+      ap (λ (cs : Params). same_listed (compared_params cs) (listed (out-Params qs))) made ∙ params_itself qs,
+    )
 
 -- lengths
 agree_open : (n : Length) → (agree n length_of.Unsized ≡ true) × ((agree n length_of.Variable ≡ true) × (agree n length_of.Unknown ≡ true))
@@ -296,7 +299,7 @@ forms_fit (f.Array t n) (f.Array u m) a b e g w x y s h =
     let within = w.0 u x y (right_true _ _ s) in
     let lengths : agree n m ≡ true = left_true _ _ s in
     made_fits _ a b _ _ _ (out_array (composite t u) (longer n m)) e g
-        (both_true _ _ (longer_left n m lengths) within.0) (both_true _ _ (longer_right n m lengths) within.1)
+    (both_true _ _ (longer_left n m lengths) within.0) (both_true _ _ (longer_right n m lengths) within.1)
 forms_fit (f.Function t ps) (f.Function u qs) a b e g w x y s h =
     let within = w.0.0 u (left_true _ _ x) (left_true _ _ y) (left_true _ _ s) in
     let lists : FitsParams (joint ps qs) ps qs = joint_fits ps qs (out-Params ps) (out-Params qs) refl refl w.1 (right_true _ _ x) (right_true _ _ y) (right_true _ _ s) in
@@ -304,7 +307,7 @@ forms_fit (f.Function t ps) (f.Function u qs) a b e g w x y s h =
 forms_fit (f.Qualified q t) (f.Qualified r u) a b e g w x y s h =
     let within = w.0 u (left_true _ _ (left_true _ _ x)) (left_true _ _ (left_true _ _ y)) (right_true _ _ s) in
     made_fits _ a b _ _ _ (out_qualified q (composite t u)) e g
-        (both_true _ _ (number_itself q) within.0) (both_true _ _ (left_true _ _ s) within.1)
+    (both_true _ _ (number_itself q) within.0) (both_true _ _ (left_true _ _ s) within.1)
 forms_fit (f.Atomic t) (f.Atomic u) a b e g w x y s h =
     let within = w.0 u x y s in made_fits _ a b _ _ _ (out_atomic (composite t u)) e g within.0 within.1
 forms_fit _ _ a b e g w x y s h = first_fits a b h
@@ -312,7 +315,7 @@ forms_fit _ _ a b e g w x y s h = first_fits a b h
 whole_fits : (a : CType) → Inside Fitting (form (out-CType a)) → IsFitting a
 whole_fits a w b g k h =
     let fits : FitsBoth (compose a (whole_parts (form (out-CType a))) b (form (out-CType b))) a b =
-        forms_fit (form (out-CType a)) (form (out-CType b)) a b refl refl w (good_of a _ refl g) (good_of b _ refl k) (sym (compatible_layers a b) ∙ h) h in
+    forms_fit (form (out-CType a)) (form (out-CType b)) a b refl refl w (good_of a _ refl g) (good_of b _ refl k) (sym (compatible_layers a b) ∙ h) h in
     (ap (λ (c : CType). compatible c a) (composite_layers a b) ∙ fits.0, ap (λ (c : CType). compatible c b) (composite_layers a b) ∙ fits.1)
 
 bare_fits : (l : Form CType Params) (a : CType) → Inside Fitting l → IsFitting a → IsFitting (unqualified_by l a)

@@ -1,7 +1,7 @@
 -- A type is what a composition keeps of it.
-use Rattle.std.proofs.Common.{◌≡◌, Bool, false, List, [], ◌∷◌, map, Option, Some, None, refl, sym, ap, ◌∙◌, rules}
+use Rattle.std.proofs.Common.{◌≡◌, Bool, false, List, [], ◌∷◌, map, Option, refl, sym, ap, ◌∙◌, rules}
 use Rattle.cl_types.specs.declared.types.CType.{CType}
-use Rattle.cl_types.specs.declared.types.CType.TheFolds.{fold-Params, fold_out-CType, fold_out-Params, fold-roll-CType, map-CType, map-Params}
+use Rattle.cl_types.specs.declared.types.CType.TheFolds.{fold_out-CType, fold_out-Params, fold-roll-CType, map-CType, map-Params}
 use Rattle.cl_types.specs.declared.types.CType.TheOpen.{CType-F, Params-F}
 use Rattle.cl_types.specs.declared.types.CType.TheViews.{out-CType, out-Params, roll-CType, roll-Params, the_lemmas}
 use Rattle.cl_types.specs.declared.types.Params.{Params}
