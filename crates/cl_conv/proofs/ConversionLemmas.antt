@@ -1,5 +1,5 @@
 -- Laws of conversions, of which each case computes.
-use Rattle.std.proofs.Common.{◌≡◌, ◌∙◌, Bool, true, false, Option, Some, None, refl, ap, rules}
+use Rattle.std.proofs.Common.{◌≡◌, ◌∙◌, true, Option, Some, None, refl, ap, rules}
 use Rattle.cl_types.specs.declared.types.Basic.{Basic}
 use Rattle.cl_types.specs.declared.types.Basic.TheVariants.{Bool as BoolType, Char, SChar, UChar, Short, UShort, Int, UInt, Long, ULong, LLong, ULLong, Float, Double, LDouble}
 use Rattle.cl_types.specs.declared.types.CType.{CType, the_lemmas}

@@ -1,6 +1,6 @@
 -- Operands, after the conversions that most operators do first: an array becomes a pointer to its element, a function a
 -- pointer to it, and any other operand loses its qualifiers and `_Atomic` (N1570 6.3.2.1p2 to p4).
-use Rattle.std.specs.Prelude.{ℕ, ◌==◌, ◌&&◌, ◌||◌, not, if◌then◌else◌, Bool, true, false, Option, Some, None, nat_le}
+use Rattle.std.specs.Prelude.{◌==◌, ◌&&◌, ◌||◌, not, if◌then◌else◌, Bool, true, false, Option, Some, None, nat_le}
 use Rattle.cl_types.specs.declared.types.Basic.{Basic}
 use Rattle.cl_types.specs.declared.types.Basic.TheVariants.{Bool as BoolType, Int}
 use Rattle.cl_types.specs.declared.types.CType.{CType}

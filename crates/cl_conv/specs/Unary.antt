@@ -1,7 +1,6 @@
 -- Operators over one operand, casts, `sizeof`, `?:`, assignment and calls (N1570 6.5.2.2, 6.5.2.4, 6.5.3, 6.5.4, 6.5.15, 6.5.16.1).
 use Rattle.std.specs.Prelude.{ℕ, ◌==◌, ◌&&◌, ◌||◌, not, if◌then◌else◌, bit_and, bit_or, nat_le, Bool, true, false, List, length, Option, Some, None}
 use Rattle.cl_types.specs.declared.types.CType.{CType}
-use Rattle.cl_types.specs.declared.types.CType.TheOpen.{Params-F}
 use Rattle.cl_types.specs.declared.types.CType.TheVariants as make
 use Rattle.cl_types.specs.declared.types.CType.TheViews.{out-CType, out-Params}
 use Rattle.cl_types.specs.declared.types.Params.{Params}
@@ -12,8 +11,8 @@ use Rattle.cl_types.specs.Qualify.{qualified, qualifiers_of}
 use Rattle.cl_conv.specs.declared.operands.Operand.{Operand}
 use Rattle.cl_conv.specs.declared.single.UnaryOp.{UnaryOp}
 use Rattle.cl_conv.specs.declared.single.UnaryOp.TheVariants as op
-use Rattle.cl_conv.specs.Operands.{is_arithmetic, is_bool, is_floating_type, is_function, is_integer, is_object_pointer, is_pointer, is_record, is_scalar, is_void, object_and_void, same_pointers, same_record, stripped, target, value_type}
-use Rattle.cl_conv.specs.Operators.{designated, is_place, object, promote, usual, value}
+use Rattle.cl_conv.specs.Operands.{is_arithmetic, is_bool, is_floating_type, is_function, is_integer, is_object_pointer, is_pointer, is_scalar, is_void, object_and_void, same_pointers, same_record, stripped, target, value_type}
+use Rattle.cl_conv.specs.Operators.{designated, is_place, promote, usual, value}
 
 -- what may be stepped: arithmetic or a pointer to an object, where it may be assigned to (6.5.2.4p1, 6.5.3.1p1)
 abbrev pub may_step : Operand → Bool

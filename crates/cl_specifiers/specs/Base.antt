@@ -1,5 +1,5 @@
 -- Type specifiers in any order (N1570 6.7.2p2).
-use Rattle.std.specs.Prelude.{ℕ, ◌+◌, ◌==◌, ◌&&◌, if◌then◌else◌, nat_le, Bool, true, false, List, [], ◌∷◌, length, count_by, Option, Some, None}
+use Rattle.std.specs.Prelude.{ℕ, ◌+◌, ◌==◌, ◌&&◌, if◌then◌else◌, nat_le, Bool, List, [], ◌∷◌, length, count_by, Option, Some, None}
 use Rattle.cl_types.specs.declared.types.CType.{CType}
 use Rattle.cl_types.specs.declared.types.CType.TheVariants as make
 use Rattle.cl_specifiers.specs.declared.base.TypeWord.{TypeWord}

@@ -1,7 +1,6 @@
 -- Types made by a declarator's parts, and by qualifiers (N1570 6.7.2.4, 6.7.3, 6.7.6).
-use Rattle.std.specs.Prelude.{ℕ, ◌==◌, ◌&&◌, ◌||◌, not, if◌then◌else◌, nat_lt, Bool, true, false, List, Option, Some, None}
+use Rattle.std.specs.Prelude.{ℕ, ◌&&◌, ◌||◌, not, if◌then◌else◌, nat_lt, Bool, true, false, Option, Some, None}
 use Rattle.cl_types.specs.declared.types.CType.{CType, fold-CType, out-CType}
-use Rattle.cl_types.specs.declared.types.CType.TheOpen.{CType-F}
 use Rattle.cl_types.specs.declared.types.CType.TheVariants as make
 use Rattle.cl_types.specs.declared.types.Length.{Length}
 use Rattle.cl_types.specs.declared.types.Length.TheVariants.{Unsized}

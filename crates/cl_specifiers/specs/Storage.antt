@@ -1,5 +1,5 @@
 -- Storage classes, and what else declaration specifiers say (N1570 6.7.1, 6.7.4, 6.7.5).
-use Rattle.std.specs.Prelude.{ℕ, ◌==◌, ◌&&◌, ◌||◌, not, if◌then◌else◌, nat_lt, Bool, true, false, List, [], ◌∷◌, Option, Some, None}
+use Rattle.std.specs.Prelude.{ℕ, ◌==◌, ◌&&◌, ◌||◌, not, if◌then◌else◌, Bool, true, false, List, [], ◌∷◌, Option, Some, None}
 use Rattle.cl_specifiers.specs.declared.storage.Declared.{Declared}
 use Rattle.cl_specifiers.specs.declared.storage.Declared.TheVariants as declares
 use Rattle.cl_specifiers.specs.declared.storage.Flags.{Flags}

@@ -1,14 +1,14 @@
 -- Compatibility is symmetric and reflexive.
-use Rattle.std.proofs.Common.{◌≡◌, ℕ, ◌==◌, ◌&&◌, not, Bool, true, false, List, [], ◌∷◌, length, map, Option, Some, None, refl, sym, ap, ◌∙◌, arith}
+use Rattle.std.proofs.Common.{◌≡◌, ℕ, ◌==◌, ◌&&◌, not, Bool, true, false, List, [], ◌∷◌, length, map, Option, refl, sym, ap, ◌∙◌, arith}
 use Rattle.std.proofs.lemmas.Grind.{common_steps}
 use Rattle.cl_types.specs.declared.types.Length.{Length}
 use Rattle.cl_types.specs.declared.types.Length.TheVariants as length_of
 use Rattle.cl_types.specs.declared.types.CType.{CType}
-use Rattle.cl_types.specs.declared.types.CType.TheFolds.{fold-Params, fold_out-CType, fold_out-Params, map-CType, map-Params}
+use Rattle.cl_types.specs.declared.types.CType.TheFolds.{fold_out-CType, fold_out-Params, map-CType, map-Params}
 use Rattle.cl_types.specs.declared.types.CType.TheOpen.{CType-F, Params-F}
-use Rattle.cl_types.specs.declared.types.CType.TheViews.{out-CType, out-Params, roll-CType, the_lemmas}
+use Rattle.cl_types.specs.declared.types.CType.TheViews.{out-CType, out-Params}
 use Rattle.cl_types.specs.declared.types.Params.{Params}
-use Rattle.cl_types.specs.Compatible.{Compared, agree, all_promoted, bare_by, both_or_none, compared, compared_by, compatible, promoted, same, same_each, same_listed, same_params}
+use Rattle.cl_types.specs.Compatible.{Compared, agree, all_promoted, bare_by, both_or_none, compared, compared_by, compatible, same, same_each, same_listed}
 use Rattle.cl_types.specs.Form.{Form, Form as f, form, listed, unqualified, unqualified_by}
 use Rattle.cl_types.proofs.Induction.{by_forms, Inside, Each, EachOf}
 use Rattle.cl_types.proofs.PromotedLemmas.{compared_params, all_promoted_agrees}
@@ -54,11 +54,11 @@ bare_layers a b =
     ∙ bare_form (form (out-CType a)) a b (sym (compatible_layers a (unqualified b)))
 
 -- two lists, type beside type, their own qualifiers aside
-abbrev alike : List CType → List CType → Bool
+abbrev pub alike : List CType → List CType → Bool
 alike (p ∷ ps) (q ∷ qs) = compatible (unqualified p) (unqualified q) && alike ps qs
 alike _ _ = true
 
-same_alike : (ps qs : List CType) → same_each (map compared ps) qs ≡ alike ps qs
+pub same_alike : (ps qs : List CType) → same_each (map compared ps) qs ≡ alike ps qs
 same_alike [] qs = refl
 same_alike (p ∷ ps) [] = refl
 same_alike (p ∷ ps) (q ∷ qs) = ap (λ (b : Bool). b && same_each (map compared ps) qs) (bare_layers p q) ∙ ap (λ (b : Bool). compatible (unqualified p) (unqualified q) && b) (same_alike ps qs)
@@ -66,7 +66,7 @@ same_alike (p ∷ ps) (q ∷ qs) = ap (λ (b : Bool). b && same_each (map compar
 pub listed_out : (ps : Params) → compared_params ps ≡ listed (map-Params CType Params Compared (Option (List Compared × Bool)) compared compared_params (out-Params ps))
 listed_out ps = fold_out-Params Compared (Option (List Compared × Bool)) compared_by listed ps
 
-and_both : (a b c d : Bool) → a ≡ c → b ≡ d → (a && b) ≡ (c && d)
+pub and_both : (a b c d : Bool) → a ≡ c → b ≡ d → (a && b) ≡ (c && d)
 and_both a b c d e g = ap (λ (x : Bool). x && b) e ∙ ap (λ (x : Bool). c && x) g
 
 same_number : (n m : ℕ) → (n == m) ≡ (m == n)
@@ -92,10 +92,10 @@ agree_either length_of.Variable _ = refl
 agree_either length_of.Unknown _ = refl
 
 -- symmetry
-abbrev IsSymmetric : CType → Type 0
+abbrev pub IsSymmetric : CType → Type 0
 IsSymmetric a = (b : CType) → compatible a b ≡ compatible b a
 
-abbrev Symmetric : CType → Type 0
+abbrev pub Symmetric : CType → Type 0
 Symmetric a = IsSymmetric a × IsSymmetric (unqualified a)
 
 alike_either : (ps qs : List CType) → Each Symmetric ps → alike ps qs ≡ alike qs ps
@@ -155,10 +155,10 @@ pub compatible_symmetric : (a b : CType) → compatible a b ≡ compatible b a
 compatible_symmetric a b = (symmetric_type a).0 b
 
 -- reflexivity
-abbrev Reflexive : CType → Type 0
+abbrev pub Reflexive : CType → Type 0
 Reflexive a = (compatible a a ≡ true) × (compatible (unqualified a) (unqualified a) ≡ true)
 
-number_itself : (n : ℕ) → (n == n) ≡ true
+pub number_itself : (n : ℕ) → (n == n) ≡ true
 number_itself n = grind (arith, common_steps)
 
 agree_itself : (n : Length) → agree n n ≡ true
@@ -206,3 +206,26 @@ reflexive_type = by_forms Reflexive (λ a w. (whole_itself a w, unqualified_itse
 
 pub compatible_reflexive : (a : CType) → compatible a a ≡ true
 compatible_reflexive a = (reflexive_type a).0
+
+-- the same of parameter lists
+each_symmetric : (ts : List CType) → Each Symmetric ts
+each_symmetric [] = tt
+each_symmetric (t ∷ ts) = (symmetric_type t, each_symmetric ts)
+
+listed_symmetric : (y : Params-F CType Params) → EachOf Symmetric y
+listed_symmetric (Params-F.Proto ts v) = each_symmetric ts
+listed_symmetric Params-F.NoProto = tt
+
+each_reflexive : (ts : List CType) → Each Reflexive ts
+each_reflexive [] = tt
+each_reflexive (t ∷ ts) = (reflexive_type t, each_reflexive ts)
+
+listed_reflexive : (y : Params-F CType Params) → EachOf Reflexive y
+listed_reflexive (Params-F.Proto ts v) = each_reflexive ts
+listed_reflexive Params-F.NoProto = tt
+
+pub params_symmetric : (ps qs : Params) → same_listed (compared_params ps) (listed (out-Params qs)) ≡ same_listed (compared_params qs) (listed (out-Params ps))
+params_symmetric ps qs = params_either ps qs (listed_symmetric (out-Params ps))
+
+pub params_itself : (ps : Params) → same_listed (compared_params ps) (listed (out-Params ps)) ≡ true
+params_itself ps = ap (λ (l : Option (List Compared × Bool)). same_listed l (listed (out-Params ps))) (listed_out ps) ∙ listed_itself (out-Params ps) (listed_reflexive (out-Params ps))

@@ -1,5 +1,5 @@
 -- What holds of a type where it holds of the types within it, holds of each type.
-use Rattle.std.proofs.Common.{◌≡◌, Bool, List, [], ◌∷◌, map, refl, sym, subst, rules}
+use Rattle.std.proofs.Common.{◌≡◌, List, [], ◌∷◌, map, sym, subst, rules}
 use Rattle.cl_types.specs.declared.types.CType.{CType}
 use Rattle.cl_types.specs.declared.types.CType.TheFolds.{ind-CType, map-CType, map-Params}
 use Rattle.cl_types.specs.declared.types.CType.TheOpen.{CType-F, Params-F}

@@ -1,7 +1,7 @@
 -- A type is what a composition keeps of it.
-use Rattle.std.proofs.Common.{◌≡◌, Bool, false, List, [], ◌∷◌, map, Option, Some, None, refl, sym, ap, ◌∙◌, rules}
+use Rattle.std.proofs.Common.{◌≡◌, Bool, false, List, [], ◌∷◌, map, Option, refl, sym, ap, ◌∙◌, rules}
 use Rattle.cl_types.specs.declared.types.CType.{CType}
-use Rattle.cl_types.specs.declared.types.CType.TheFolds.{fold-Params, fold_out-CType, fold_out-Params, fold-roll-CType, map-CType, map-Params}
+use Rattle.cl_types.specs.declared.types.CType.TheFolds.{fold_out-CType, fold_out-Params, fold-roll-CType, map-CType, map-Params}
 use Rattle.cl_types.specs.declared.types.CType.TheOpen.{CType-F, Params-F}
 use Rattle.cl_types.specs.declared.types.CType.TheViews.{out-CType, out-Params, roll-CType, roll-Params, the_lemmas}
 use Rattle.cl_types.specs.declared.types.Params.{Params}
@@ -57,10 +57,10 @@ own_parts Params-F.NoProto = search (rules, the_lemmas)
 pub own_parameters : (ps : Params) → own_listed (composed_params ps) ≡ ps
 own_parameters ps = ap own_listed (fold_out-Params Composed (Option (List Composed × Bool)) composed_by listed ps) ∙ own_parts (out-Params ps) ∙ roll_of_out ps
 
-composed_out : (a : CType) → composed a ≡ composed_by (map-CType CType Params Composed (Option (List Composed × Bool)) composed composed_params (out-CType a))
+pub composed_out : (a : CType) → composed a ≡ composed_by (map-CType CType Params Composed (Option (List Composed × Bool)) composed composed_params (out-CType a))
 composed_out a = fold_out-CType Composed (Option (List Composed × Bool)) composed_by listed a
 
-own_of : (a : CType) → own_by (map-CType CType Params Composed (Option (List Composed × Bool)) composed composed_params (out-CType a)) ≡ a
+pub own_of : (a : CType) → own_by (map-CType CType Params Composed (Option (List Composed × Bool)) composed composed_params (out-CType a)) ≡ a
 own_of a = sym (ap (λ (c : Composed). c.own) (composed_out a)) ∙ is_own a
 
 unlike : (x : CType-F CType Params) (z : Form CType Params) (a b : CType) → paired_by (form x) z ≡ false →

@@ -2,10 +2,10 @@
 use Rattle.std.proofs.Common.{◌≡◌, Bool, List, [], ◌∷◌, map, Option, refl, sym, ap, ◌∙◌}
 use Rattle.cl_types.specs.declared.types.CType.{CType}
 use Rattle.cl_types.specs.declared.types.CType.TheFolds.{fold-Params, fold-roll-CType, map-CType}
-use Rattle.cl_types.specs.declared.types.CType.TheOpen.{CType-F, Params-F}
+use Rattle.cl_types.specs.declared.types.CType.TheOpen.{CType-F}
 use Rattle.cl_types.specs.declared.types.CType.TheViews.{roll-CType}
 use Rattle.cl_types.specs.declared.types.Params.{Params}
-use Rattle.cl_types.specs.Compatible.{compared, compared_by, promoted, Compared, all_promoted}
+use Rattle.cl_types.specs.Compatible.{compared, compared_by, promoted, Compared}
 use Rattle.cl_types.specs.Form.{form, listed, promoted_in}
 use Rattle.cl_types.proofs.Induction.{by_layers, Within}
 

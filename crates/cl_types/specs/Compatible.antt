@@ -1,5 +1,5 @@
 -- Compatible types (N1570 6.2.7, 6.7.2.1p8, 6.7.3p10, 6.7.6.1p2, 6.7.6.2p6, 6.7.6.3p15).
-use Rattle.std.specs.Prelude.{ℕ, ◌==◌, ◌&&◌, ◌||◌, not, Bool, true, false, List, [], ◌∷◌, length, map, Option, Some, None}
+use Rattle.std.specs.Prelude.{◌==◌, ◌&&◌, not, Bool, true, false, List, [], ◌∷◌, length, map, Option, Some, None}
 use Rattle.cl_types.specs.declared.types.Basic.{Basic}
 use Rattle.cl_types.specs.declared.types.Basic.TheVariants as basic_type
 use Rattle.cl_types.specs.declared.types.Length.{Length}
@@ -8,7 +8,7 @@ use Rattle.cl_types.specs.declared.types.TagWord.{TagWord}
 use Rattle.cl_types.specs.declared.types.TagWord.TheVariants as word
 use Rattle.cl_types.specs.declared.types.CType.{CType}
 use Rattle.cl_types.specs.declared.types.CType.TheFolds.{fold-CType, fold-Params}
-use Rattle.cl_types.specs.declared.types.CType.TheOpen.{CType-F, Params-F}
+use Rattle.cl_types.specs.declared.types.CType.TheOpen.{CType-F}
 use Rattle.cl_types.specs.declared.types.CType.TheViews.{out-CType, out-Params}
 use Rattle.cl_types.specs.declared.types.Params.{Params}
 use Rattle.cl_types.specs.Form.{Form, Form as f, form, listed, place, unqualified, promoted_in}

@@ -1,10 +1,10 @@
 -- Composite types (N1570 6.2.7p3).
-use Rattle.std.specs.Prelude.{ℕ, Bool, List, [], ◌∷◌, map, Option, Some, None}
+use Rattle.std.specs.Prelude.{Bool, List, [], ◌∷◌, map, Option, Some, None}
 use Rattle.cl_types.specs.declared.types.Length.{Length}
 use Rattle.cl_types.specs.declared.types.Length.TheVariants.{Fixed, Unsized, Variable, Unknown}
 use Rattle.cl_types.specs.declared.types.CType.{CType}
 use Rattle.cl_types.specs.declared.types.CType.TheFolds.{fold-CType, fold-Params, map-CType}
-use Rattle.cl_types.specs.declared.types.CType.TheOpen.{CType-F, Params-F}
+use Rattle.cl_types.specs.declared.types.CType.TheOpen.{CType-F}
 use Rattle.cl_types.specs.declared.types.CType.TheVariants as make
 use Rattle.cl_types.specs.declared.types.CType.TheViews.{out-CType, out-Params, roll-CType}
 use Rattle.cl_types.specs.declared.types.Params.{Params}

@@ -2,7 +2,6 @@
 use Rattle.std.specs.Prelude.{ℕ, ◌+◌, ◌-◌, ◌&&◌, if◌then◌else◌, nat_le, nat_lt, Bool, true, false, List, [], ◌∷◌, Option, Some, None}
 use Rattle.cl_types.specs.declared.types.CType.{CType}
 use Rattle.cl_types.specs.declared.types.CType.TheFolds.{fold-CType, fold-Params}
-use Rattle.cl_types.specs.declared.types.CType.TheOpen.{CType-F}
 use Rattle.cl_types.specs.declared.types.Params.{Params}
 use Rattle.cl_types.specs.Form.{Form, Form as f, form, listed}
 

@@ -1,6 +1,6 @@
 -- Types as C writes them (N1570 6.7.6, 6.7.7): a declarator begins as the name, each layer puts its part round it, and the base
 -- goes before it.
-use Rattle.std.specs.Prelude.{ℕ, ◌==◌, ◌||◌, if◌then◌else◌, Bool, true, false, List, [], ◌∷◌, ◌++◌, map, Option, Some, None, codes}
+use Rattle.std.specs.Prelude.{ℕ, ◌==◌, if◌then◌else◌, Bool, true, false, List, [], ◌∷◌, ◌++◌, map, Option, Some, None, codes}
 use Rattle.std.specs.Fmt.{decimal}
 use Rattle.cl_types.specs.declared.types.Basic.{Basic}
 use Rattle.cl_types.specs.declared.types.Basic.TheVariants as basic_type

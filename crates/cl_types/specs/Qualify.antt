@@ -2,7 +2,6 @@
 use Rattle.std.specs.Prelude.{ℕ, ◌==◌, if◌then◌else◌, bit_or}
 use Rattle.cl_types.specs.declared.types.CType.{CType}
 use Rattle.cl_types.specs.declared.types.CType.TheFolds.{fold-CType}
-use Rattle.cl_types.specs.declared.types.CType.TheOpen.{CType-F, Params-F}
 use Rattle.cl_types.specs.declared.types.CType.TheVariants as make
 use Rattle.cl_types.specs.declared.types.CType.TheViews.{out-CType}
 use Rattle.cl_types.specs.declared.types.Params.{Params}

@@ -14,7 +14,7 @@ mod unit;
 
 pub use comparing::{compatible, is_enum, is_error, promoted, unqualified};
 pub use composing::composite;
-pub use laws::{either_way, with_itself};
+pub use laws::{either_way, normal_forms, with_both, with_itself};
 pub use printing::print;
 pub use qualifying::{qualified, qualifiers_of};
 pub use shared::Shared;
