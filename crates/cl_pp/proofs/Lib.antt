@@ -5,13 +5,16 @@ mod Branching
 mod Lying
 mod Withins
 pub mod Digits
-mod Shapes
 mod Going
+mod Coming
 mod Events
 mod Replaces
-mod Placing
-mod Order
-mod Ordering
+mod Files
+mod Arriving
+mod Shapes
 pub mod Unique
 mod Existing
-mod Found
+pub mod Adding
+mod Naming
+mod Opening
+mod Reading
