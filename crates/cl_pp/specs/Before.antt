@@ -1,8 +1,8 @@
 -- What stands before a text, as its state says it.
-use Rattle.std.specs.Prelude.{◌≡◌, ℕ, List, [], ◌++◌, None, map}
+use Rattle.std.specs.Prelude.{◌≡◌, ℕ, List, [], None}
 use Rattle.cl_base.specs.declared.config.Define.{Define}
 use Rattle.cl_base.specs.declared.headers.Known.{Known}
-use Rattle.cl_headers.specs.declared.dep.Dep.{Dep}
+use Rattle.cl_headers.specs.Noting.{IsNoted}
 use Rattle.cl_macro.specs.Starting.{IsStart}
 use Rattle.cl_macro.specs.Table.{event_of, macro_of}
 use Rattle.cl_pp.specs.declared.start.PpState.{PpState}
@@ -24,7 +24,7 @@ pub record IsFirst (defines : List Define) (state : PpState) : Type 0 where
   pub once : state.once ≡ []
   pub events : state.events ≡ 0
 
--- the text is preprocessed from there, and these paths were asked, and no others
+-- the text is preprocessed from there, and the headers that it asked for, and no others, were asked for since
 pub record Preprocessed (before : Before) (known : List ℕ → Known) (folders : List (List ℕ)) (path text : List ℕ) (earlier later : List (List ℕ)) (answer : PpAnswer) : Type 0 where
   pub from : PreprocessesFrom before known folders path text answer
-  pub asked : later ≡ earlier ++ map (λ (dep : Dep). dep.path) from.done.deps
+  pub noted : IsNoted known [] from.done.deps earlier later

@@ -13,6 +13,8 @@ mod diagnostics;
 #[cfg(test)]
 mod header_sources;
 #[cfg(test)]
+mod includes;
+#[cfg(test)]
 mod large;
 #[cfg(test)]
 mod lexing;

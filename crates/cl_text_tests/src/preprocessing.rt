@@ -1,5 +1,6 @@
-use cl_base::{Config, List, Mem, Path};
-use cl_pp::{PpDone, preprocess};
+use cl_base::{Config, EmptyBase, List, Mem, Memory, Path};
+use cl_headers::{HeaderMap, MapView};
+use cl_pp::{PpAnswer, PpDone, PpState, preprocess};
 use std::alloc::Global;
 use std::test::Fail;
 
@@ -50,8 +51,8 @@ fn active_lines_and_faults(rt: HostRuntime) -> Result<(), Fail> {
             "!6@1-7 !7@27-28 !6@30-35 ",
         ),
         (
-            b"#include <a> b\n#include X Y\n#line\n#\n# 3\n",
-            "!7@13-14 !23@29-33 !5@38-39 ",
+            b"#include X Y\n#line\n#\n# 3\n",
+            "!8@9-10 !23@14-18 !5@23-24 ",
         ),
         (b"#foo\n a # b\n", "a@6 #@8 b@10 !5@1-4 "),
         (b"#error '\n#pragma \"\n'", "'@19 !22@1-6 !2@19-20 "),
@@ -182,8 +183,13 @@ fn deep_sections_and_parentheses(rt: HostRuntime) -> Result<(), Fail> {
 fn done_of(alloc: Global, text: &[u8]) -> Mem<PpDone> {
     let path = Path::new(alloc, "/a.c")?;
     let config = Config::new(alloc, List::new(alloc), List::new(alloc))?;
-    let done = preprocess(alloc, &path, text, &config)?;
-    Ok(done)
+    let headers = HeaderMap::new(alloc)?;
+    let mut view = MapView::new(alloc, &headers);
+    let start = PpState::start(alloc, &config)?;
+    match preprocess(alloc, start, &EmptyBase, &path, text, &config, &mut view)? {
+        PpAnswer::Done(done) => Ok(done),
+        PpAnswer::Need(_) => Err(Memory),
+    }
 }
 
 fn shown(alloc: Global, text: &[u8]) -> Mem<String> {

@@ -1,0 +1,44 @@
+-- What was found is what becomes of the text.
+use Rattle.std.proofs.Common.{◌≡◌, ℕ, ◌+◌, List, [], Option, Some, None, refl, sym, ap, subst, ◌∙◌, length, arith}
+use Rattle.cl_base.specs.declared.config.Settings.{Settings}
+use Rattle.cl_base.specs.declared.headers.Known.{Known}
+use Rattle.cl_base.specs.declared.macros.Macro.{Macro}
+use Rattle.cl_base.specs.declared.macros.MacroEvent.{MacroEvent}
+use Rattle.cl_base.specs.declared.macros.MacroNo.{MacroNo}
+use Rattle.cl_macro.specs.declared.table.MacroTable.{MacroTable}
+use Rattle.cl_macro.specs.Starting.{start_of}
+use Rattle.cl_pp.specs.declared.done.PpAnswer.{PpAnswer}
+use Rattle.cl_pp.specs.declared.done.PpDone.{PpDone}
+use Rattle.cl_pp.specs.declared.start.PpState.{PpState}
+use Rattle.cl_pp.specs.Before.{IsFirst, before_of}
+use Rattle.cl_pp.specs.Places.{IfDone}
+use Rattle.cl_pp.specs.Preprocessing.{Before, Preprocesses, PreprocessesFrom, answer_by, answer_of, first_before}
+use Rattle.cl_pp.specs.Standing.{Start, meant, numbered, wanted}
+use Rattle.cl_pp.specs.code.Keeping.{Keeps, lookup, number_of}
+
+-- no event has been yet
+pub keeps_first : (start : Start) (table : MacroTable) (old : PpDone) → old.events ≡ [] → ((name : List ℕ) → lookup table name ≡ start.macros name) → ((name : List ℕ) → number_of table name ≡ start.numbers name)
+    → table.events ≡ start.events → Keeps start table old
+keeps_first start table old e m n c = record {
+  macros_are = λ name. m name ∙ ap (λ (es : List MacroEvent). meant es name (start.macros name)) (sym e);
+  numbers_are = λ name. n name ∙ ap (λ (es : List MacroEvent). numbered start.events es name (start.numbers name)) (sym e);
+  count = let l : length old.events ≡ 0 = ap length e in omega (arith, c, l);
+}
+
+done_by : (P : PpDone → Type 0) (o : Option (List ℕ)) (done : PpDone) → P done → IfDone P (answer_by o done)
+done_by P None done h = h
+done_by P (Some path) done h = tt
+
+pub if_done : (P : PpDone → Type 0) (answer : PpAnswer) (done : PpDone) → answer ≡ answer_of done → P done → IfDone P answer
+if_done P answer done e h = subst (IfDone P) (sym e) (done_by P (wanted done.deps) done h)
+
+-- a state that has no more than the settings' macros
+pub from_first : (config : Settings) (state : PpState) (known : List ℕ → Known) (path text : List ℕ) (answer : PpAnswer) → IsFirst config.defines state
+    → PreprocessesFrom (before_of state) known config.includes path text answer → Preprocesses config known path text answer
+from_first config state known path text answer f p =
+    let same : before_of state ≡ first_before f.table.macros = λ i. record {
+      start = record { macros = λ name. f.table.macros_are (λ other. None) name i; numbers = λ name. f.table.unnumbered name i; events = f.events i };
+      files = f.files i;
+      once = f.once i;
+    } in
+    record { macros = f.table.macros; given = f.table.given; preprocessed = subst (λ (b : Before). PreprocessesFrom b known config.includes path text answer) same p }
