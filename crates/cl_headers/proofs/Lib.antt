@@ -2,5 +2,6 @@ mod Forks
 mod Put
 mod Row
 mod Same
-mod Search
+mod Noted
+pub mod Search
 mod Within

@@ -17,7 +17,7 @@ View = List ℕ → Known
 later : (before asked : Paths) (path : List ℕ) (mid after : Paths) → mid ≡ before ++ path ∷ [] → after ≡ mid ++ asked → after ≡ before ++ path ∷ asked
 later before asked path mid after e f = f ∙ ap (λ (ps : Paths). ps ++ asked) e ∙ append_assoc before (path ∷ []) asked
 
-later_resolves : (view : View) (path : List ℕ) (paths asked : Paths) (resolved : Resolved) → view path ≡ state.Absent → Resolves view paths asked resolved
+pub later_resolves : (view : View) (path : List ℕ) (paths asked : Paths) (resolved : Resolved) → view path ≡ state.Absent → Resolves view paths asked resolved
     → Resolves view (path ∷ paths) (path ∷ asked) resolved
 later_resolves view path paths asked resolved none (decided front p rest split absent comes e) =
     decided (path ∷ front) p rest (ap (λ (ps : Paths). path ∷ ps) split) (none, absent) comes (ap (λ (ps : Paths). path ∷ ps) e)

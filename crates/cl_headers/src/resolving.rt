@@ -49,7 +49,7 @@ pub fn resolve<V: HeaderView>(
 }
 
 /// Whether a name begins with `/`.
-fn is_rooted(name: &str) -> bool
+pub(crate) fn is_rooted(name: &str) -> bool
     ensures { result ≡ is_rooted name.now }
 {
     match name.as_bytes() {

@@ -7,7 +7,7 @@ mod Joining
 mod Lexed
 pub mod Longest
 mod Machine
-mod Order
+pub mod Order
 mod Pass
 mod PlainText
 mod Quotes

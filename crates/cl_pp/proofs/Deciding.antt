@@ -6,31 +6,31 @@ use Rattle.cl_base.specs.declared.token.PpToken.{PpToken}
 use Rattle.cl_pp.specs.Defined.{asked, asked_for, asked_from, decided, decided_from, replaced, taken}
 
 -- those that belong to what is before are passed
-passed : (macros : List ℕ → Option Macro) (n : ℕ) (ts : List Token) → n ≤ length ts → decided_from macros n ts ≡ decided_from macros 0 (drop n ts)
-passed macros zero ts h = refl
-passed macros (suc n) [] h = absurd (omega arith)
-passed macros (suc n) (t ∷ ts) h = passed macros n ts (omega arith)
+passed : (file : ℕ) (macros : List ℕ → Option Macro) (n : ℕ) (ts : List Token) → n ≤ length ts → decided_from file macros n ts ≡ decided_from file macros 0 (drop n ts)
+passed file macros zero ts h = refl
+passed file macros (suc n) [] h = absurd (omega arith)
+passed file macros (suc n) (t ∷ ts) h = passed file macros n ts (omega arith)
 
 passed_names : (n : ℕ) (ts : List Token) → n ≤ length ts → asked_from n ts ≡ asked_from 0 (drop n ts)
 passed_names zero ts h = refl
 passed_names (suc n) [] h = absurd (omega arith)
 passed_names (suc n) (t ∷ ts) h = passed_names n ts (omega arith)
 
-pub decided_on : (macros : List ℕ → Option Macro) (tokens : List Token) (all new : List PpToken) (rest after left : List Token) (token : Token) (count : ℕ) (it : PpToken)
-    → decided macros tokens ≡ all ++ decided_from macros 0 rest → rest ≡ token ∷ after → count ≡ taken token after → count ≤ length after → it ≡ replaced macros token after
-    → new ≡ all ++ it ∷ [] → left ≡ drop count after → decided macros tokens ≡ new ++ decided_from macros 0 left
-decided_on macros tokens all new rest after left token count it h r c w i n l =
-    let count_is : decided_from macros (taken token after) after ≡ decided_from macros 0 left =
-    ap (λ (k : ℕ). decided_from macros k after) (sym c) ∙ passed macros count after w ∙ ap (decided_from macros 0) (sym l) in
-    h ∙ ap (λ (ts : List Token). all ++ decided_from macros 0 ts) r
-    ∙ ap (λ (more : List PpToken). all ++ replaced macros token after ∷ more) count_is
-    ∙ ap (λ (x : PpToken). all ++ x ∷ decided_from macros 0 left) (sym i)
-    ∙ sym (append_assoc all (it ∷ []) (decided_from macros 0 left))
-    ∙ ap (λ (xs : List PpToken). xs ++ decided_from macros 0 left) (sym n)
+pub decided_on : (file : ℕ) (macros : List ℕ → Option Macro) (tokens : List Token) (all new : List PpToken) (rest after left : List Token) (token : Token) (count : ℕ) (it : PpToken)
+    → decided file macros tokens ≡ all ++ decided_from file macros 0 rest → rest ≡ token ∷ after → count ≡ taken token after → count ≤ length after → it ≡ replaced file macros token after
+    → new ≡ all ++ it ∷ [] → left ≡ drop count after → decided file macros tokens ≡ new ++ decided_from file macros 0 left
+decided_on file macros tokens all new rest after left token count it h r c w i n l =
+    let count_is : decided_from file macros (taken token after) after ≡ decided_from file macros 0 left =
+    ap (λ (k : ℕ). decided_from file macros k after) (sym c) ∙ passed file macros count after w ∙ ap (decided_from file macros 0) (sym l) in
+    h ∙ ap (λ (ts : List Token). all ++ decided_from file macros 0 ts) r
+    ∙ ap (λ (more : List PpToken). all ++ replaced file macros token after ∷ more) count_is
+    ∙ ap (λ (x : PpToken). all ++ x ∷ decided_from file macros 0 left) (sym i)
+    ∙ sym (append_assoc all (it ∷ []) (decided_from file macros 0 left))
+    ∙ ap (λ (xs : List PpToken). xs ++ decided_from file macros 0 left) (sym n)
 
-pub decided_all : (macros : List ℕ → Option Macro) (tokens : List Token) (all : List PpToken) (rest : List Token) → decided macros tokens ≡ all ++ decided_from macros 0 rest → length rest ≡ 0 → all ≡ decided macros tokens
-decided_all macros tokens all [] h e = sym (h ∙ append-nil all)
-decided_all macros tokens all (t ∷ ts) h e = absurd (omega arith)
+pub decided_all : (file : ℕ) (macros : List ℕ → Option Macro) (tokens : List Token) (all : List PpToken) (rest : List Token) → decided file macros tokens ≡ all ++ decided_from file macros 0 rest → length rest ≡ 0 → all ≡ decided file macros tokens
+decided_all file macros tokens all [] h e = sym (h ∙ append-nil all)
+decided_all file macros tokens all (t ∷ ts) h e = absurd (omega arith)
 
 pub asked_on : (tokens : List Token) (all new : List (List ℕ)) (rest after left : List Token) (token : Token) (count : ℕ)
     → asked tokens ≡ all ++ asked_from 0 rest → rest ≡ token ∷ after → count ≡ taken token after → count ≤ length after

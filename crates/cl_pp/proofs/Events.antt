@@ -12,7 +12,7 @@ use Rattle.cl_macro.specs.declared.table.Entry.{Entry}
 use Rattle.cl_macro.specs.Defining.{Defines}
 use Rattle.cl_macro.specs.Table.{IsAsBefore, IsPut, event_by, is_name, macro_by}
 use Rattle.cl_pp.specs.declared.done.PpDone.{PpDone}
-use Rattle.cl_pp.specs.Standing.{meant, numbered, with_looked}
+use Rattle.cl_pp.specs.Standing.{Start, meant, numbered, with_looked}
 use Rattle.cl_pp.specs.Taking.{defined_by}
 use Rattle.cl_pp.specs.code.Defining.{defined_after}
 use Rattle.cl_pp.specs.code.Keeping.{Keeps}
@@ -32,10 +32,7 @@ numbered_more n (x ∷ xs) e name before =
     numbered_more (n + 1) xs e name (if is_name x.name name then Some (no n) else before)
     ∙ ap (λ (k : ℕ). if is_name e.name name then Some (no k) else numbered (n + 1) xs name (if is_name x.name name then Some (no n) else before)) s
 
-nothing_first : (n : ℕ) → n ≡ 0 + n
-nothing_first n = omega arith
-
-pub kept_event : (start : List ℕ → Option Macro) (table new : MacroTable) (old done : PpDone) (name : List ℕ) (set : Option Macro) → Keeps start table old
+pub kept_event : (start : Start) (table new : MacroTable) (old done : PpDone) (name : List ℕ) (set : Option Macro) → Keeps start table old
     → done.events ≡ old.events ++ record { name = name; set = set } ∷ [] → IsPut name set table new → Keeps start new done
 kept_event start table new old done name set k e p =
     let m = p.macros (λ name. None) in
@@ -44,10 +41,9 @@ kept_event start table new old done name set k e p =
     let event : MacroEvent = record { name = name; set = set } in
     record {
       macros_are = λ other. m other ∙ ap (λ (o : Option Macro). if is_name name other then set else o) (k.macros_are other)
-          ∙ sym (meant_more old.events event other (start other)) ∙ ap (λ (es : List MacroEvent). meant es other (start other)) (sym e);
+          ∙ sym (meant_more old.events event other (start.macros other)) ∙ ap (λ (es : List MacroEvent). meant es other (start.macros other)) (sym e);
       numbers_are = λ other. n other ∙ (λ i. if is_name name other then Some (no (k.count i)) else k.numbers_are other i)
-          ∙ ap (λ (x : ℕ). if is_name name other then Some (no x) else numbered 0 old.events other None) (nothing_first (length old.events))
-          ∙ sym (numbered_more 0 old.events event other None) ∙ ap (λ (es : List MacroEvent). numbered 0 es other None) (sym e);
+          ∙ sym (numbered_more start.events old.events event other (start.numbers other)) ∙ ap (λ (es : List MacroEvent). numbered start.events es other (start.numbers other)) (sym e);
       count = c ∙ (let s : length done.events ≡ length old.events + 1 = ap length e ∙ more old.events event in let t = k.count in omega arith);
     }
   where
@@ -56,22 +52,22 @@ kept_event start table new old done name set k e p =
     more (y ∷ ys) x = let r = more ys x in omega (arith, r)
 
 -- nothing happened
-pub kept_same : (start : List ℕ → Option Macro) (table new : MacroTable) (old done : PpDone) → Keeps start table old → done.events ≡ old.events → IsAsBefore table new → Keeps start new done
+pub kept_same : (start : Start) (table new : MacroTable) (old done : PpDone) → Keeps start table old → done.events ≡ old.events → IsAsBefore table new → Keeps start new done
 kept_same start table new old done k e p = record {
-  macros_are = λ other. ap (λ (x : Option Entry). macro_by x None) (p.entries other) ∙ k.macros_are other ∙ ap (λ (es : List MacroEvent). meant es other (start other)) (sym e);
-  numbers_are = λ other. ap (λ (x : Option Entry). event_by x None) (p.entries other) ∙ k.numbers_are other ∙ ap (λ (es : List MacroEvent). numbered 0 es other None) (sym e);
-  count = p.count ∙ k.count ∙ ap length (sym e);
+  macros_are = λ other. ap (λ (x : Option Entry). macro_by x None) (p.entries other) ∙ k.macros_are other ∙ ap (λ (es : List MacroEvent). meant es other (start.macros other)) (sym e);
+  numbers_are = λ other. ap (λ (x : Option Entry). event_by x None) (p.entries other) ∙ k.numbers_are other ∙ ap (λ (es : List MacroEvent). numbered start.events es other (start.numbers other)) (sym e);
+  count = p.count ∙ k.count ∙ ap (λ (es : List MacroEvent). start.events + length es) (sym e);
 }
 
 -- a definition
-pub kept_given : (start : List ℕ → Option Macro) (table new : MacroTable) (old done : PpDone) (answer : Defined) (mac : Macro) (tokens : List Token) → Keeps start table old
-    → done ≡ defined_by answer mac tokens old → Defines mac answer table new → Keeps start new done
-kept_given start table new old done defined.New mac tokens k e d = kept_event start table new old done mac.name (Some mac) k (ap (λ (x : PpDone). x.events) e) d
-kept_given start table new old done defined.Same mac tokens k e d = kept_same start table new old done k (ap (λ (x : PpDone). x.events) e) d
-kept_given start table new old done (defined.Replaced place) mac tokens k e d = kept_event start table new old done mac.name (Some mac) k (ap (λ (x : PpDone). x.events) e) d
+pub kept_given : (file : ℕ) (start : Start) (table new : MacroTable) (old done : PpDone) (answer : Defined) (mac : Macro) (tokens : List Token) → Keeps start table old
+    → done ≡ defined_by file answer mac tokens old → Defines mac answer table new → Keeps start new done
+kept_given file start table new old done defined.New mac tokens k e d = kept_event start table new old done mac.name (Some mac) k (ap (λ (x : PpDone). x.events) e) d
+kept_given file start table new old done defined.Same mac tokens k e d = kept_same start table new old done k (ap (λ (x : PpDone). x.events) e) d
+kept_given file start table new old done (defined.Replaced place) mac tokens k e d = kept_event start table new old done mac.name (Some mac) k (ap (λ (x : PpDone). x.events) e) d
 
 -- the name is looked at first
-pub told_first : (answer : Defined) (mac : Macro) (tokens : List Token) (old : PpDone) → defined_after answer mac.name mac tokens (with_looked (mac.name ∷ []) old) ≡ defined_by answer mac tokens old
-told_first defined.New mac tokens old = refl
-told_first defined.Same mac tokens old = refl
-told_first (defined.Replaced place) mac tokens old = refl
+pub told_first : (file : ℕ) (answer : Defined) (mac : Macro) (tokens : List Token) (old : PpDone) → defined_after file answer mac.name mac tokens (with_looked (mac.name ∷ []) old) ≡ defined_by file answer mac tokens old
+told_first file defined.New mac tokens old = refl
+told_first file defined.Same mac tokens old = refl
+told_first file (defined.Replaced place) mac tokens old = refl

@@ -1,5 +1,5 @@
 -- The lines of a file, one after the other.
-use Rattle.std.proofs.Common.{◌≡◌, ℕ, ◌+◌, ◌<◌, ◌≤◌, List, [], ◌∷◌, Option, refl, sym, subst, length, drop, get_or, Bool}
+use Rattle.std.proofs.Common.{◌≡◌, ℕ, ◌+◌, ◌<◌, ◌≤◌, List, [], ◌∷◌, Option, refl, sym, subst, length, drop, get_or, Bool, true, false}
 use Rattle.std.specs.Prelude.{reverse}
 use Rattle.std.specs.Ordering.{nat_cmp}
 use Rattle.std.specs.BTreeMap.{get}
@@ -8,6 +8,7 @@ use Rattle.cl_base.specs.declared.macros.Macro.{Macro}
 use Rattle.cl_base.specs.declared.macros.MacroNo.{MacroNo}
 use Rattle.cl_base.specs.declared.token.Token.{Token}
 use Rattle.cl_base.specs.declared.token.Fault.{Fault}
+use Rattle.cl_pp.specs.declared.aim.Aim.{Aim}
 use Rattle.cl_pp.specs.declared.done.PpDone.{PpDone}
 use Rattle.cl_cond.specs.declared.mark.Mark.{Mark}
 use Rattle.cl_pp.specs.declared.section.Section.{Section}
@@ -16,12 +17,13 @@ use Rattle.cl_macro.specs.declared.table.MacroTable.{MacroTable}
 use Rattle.cl_pp.specs.Activity.{Passed, Question, says}
 use Rattle.cl_pp.specs.Acts.{act}
 use Rattle.cl_pp.specs.Lines.{line_of}
-use Rattle.cl_pp.specs.Preprocessing.{Goes, State, World, end, line, rules_in, TakesLine}
-use Rattle.cl_pp.specs.Standing.{macro_at, number_at}
-use Rattle.cl_pp.specs.Taking as taking
-use Rattle.cl_pp.specs.code.Going.{GoesOver, Takes}
+use Rattle.cl_pp.specs.Preprocessing.{ComesTo, Does, Goes, State, World, end, line, rules_in}
+use Rattle.cl_pp.specs.Standing.{is_stopped, macro_at, number_at}
+use Rattle.cl_pp.specs.Taking.{Comes}
+use Rattle.cl_pp.specs.code.Going.{ComesBy}
 use Rattle.cl_pp.specs.code.Keeping.{Keeps, Suits, lookup, number_of}
 use Rattle.cl_pp.specs.code.Stacks.{stacked, tell, top_of}
+use Rattle.cl_pp.proofs.Shapes.{stop_at}
 use Rattle.cl_pp.proofs.Standing.{Stand, stand_on, stand_start, top_answers}
 use Rattle.cl_pp.proofs.Straying.{next_of}
 
@@ -35,36 +37,48 @@ pub gone_first : (w : World) (tokens : List Token) (marks : List Mark) (first : 
 gone_first w tokens marks first sections e = record { past = []; stands = stand_start sections e; goes = λ t g. g }
 
 -- what is kept tells what stands
-as_line : (file : File) (w : World) (macros : MacroTable) (tokens : List Token) (mark : Mark) (past : List Passed) (before : List Section) (old new : PpDone) (held : Bool)
-    → Suits file w → Keeps w.start macros old → Stand past before → Takes file w macros (tell (top_of before)) mark (line_of tokens mark) old held new
-    → TakesLine w tokens (record { past = past; done = old }) mark held new
-as_line file w macros tokens mark past before old new held s k stand h =
+pub as_line : (file : File) (w : World) (macros : MacroTable) (tokens : List Token) (mark : Mark) (past : List Passed) (before : List Section) (old new : PpDone) (held : Bool) (aim : Aim)
+    → Suits file w → Keeps w.start macros old → Stand past before → ComesBy file w macros (tell (top_of before)) mark (line_of tokens mark) old held aim new
+    → ComesTo w tokens (record { past = past; done = old }) mark held aim new
+as_line file w macros tokens mark past before old new held aim s k stand h =
     let b : get nat_cmp file.told.now ≡ w.begins = λ i. λ (at : ℕ). s.begins at i in
     let m : lookup macros ≡ macro_at w.start old = λ i. λ (name : List ℕ). k.macros_are name i in
-    let n : number_of macros ≡ number_at old = λ i. λ (name : List ℕ). k.numbers_are name i in
+    let n : number_of macros ≡ number_at w.start old = λ i. λ (name : List ℕ). k.numbers_are name i in
     let a : tell (top_of before) ≡ (λ q. says q 0 past) = top_answers past before stand in
-    subst (λ (g : ℕ → Option Fault). taking.Takes (rules_in w (macro_at w.start old)) (number_at old) (line_of tokens mark) (act g (macro_at w.start old) mark.part (λ q. says q 0 past) (line_of tokens mark) old) held new) b
-    (subst (λ (f : List ℕ → Option Macro). taking.Takes (rules_in w f) (number_at old) (line_of tokens mark) (act (get nat_cmp file.told.now) f mark.part (λ q. says q 0 past) (line_of tokens mark) old) held new) m
-    (subst (λ (f : List ℕ → Option MacroNo). taking.Takes (rules_in w (lookup macros)) f (line_of tokens mark) (act (get nat_cmp file.told.now) (lookup macros) mark.part (λ q. says q 0 past) (line_of tokens mark) old) held new) n
-    (subst (λ (f : Question → Bool). taking.Takes (rules_in w (lookup macros)) (number_of macros) (line_of tokens mark) (act (get nat_cmp file.told.now) (lookup macros) mark.part f (line_of tokens mark) old) held new) a h)))
+    subst (λ (j : ℕ). Comes j (rules_in w (macro_at w.start old)) (number_at w.start old) (line_of tokens mark) (act j w.begins (macro_at w.start old) mark.part (λ q. says q 0 past) (line_of tokens mark) old) held aim new) s.number
+    (subst (λ (g : ℕ → Option Fault). Comes file.number (rules_in w (macro_at w.start old)) (number_at w.start old) (line_of tokens mark) (act file.number g (macro_at w.start old) mark.part (λ q. says q 0 past) (line_of tokens mark) old) held aim new) b
+    (subst (λ (f : List ℕ → Option Macro). Comes file.number (rules_in w f) (number_at w.start old) (line_of tokens mark) (act file.number (get nat_cmp file.told.now) f mark.part (λ q. says q 0 past) (line_of tokens mark) old) held aim new) m
+    (subst (λ (f : List ℕ → Option MacroNo). Comes file.number (rules_in w (lookup macros)) f (line_of tokens mark) (act file.number (get nat_cmp file.told.now) (lookup macros) mark.part (λ q. says q 0 past) (line_of tokens mark) old) held aim new) n
+    (subst (λ (f : Question → Bool). Comes file.number (rules_in w (lookup macros)) (number_of macros) (line_of tokens mark) (act file.number (get nat_cmp file.told.now) (lookup macros) mark.part f (line_of tokens mark) old) held aim new) a h))))
 
-pub gone_on : (file : File) (w : World) (macros : MacroTable) (tokens : List Token) (marks : List Mark) (i : ℕ) (d mark : Mark) (first old new : PpDone) (before after : List Section) (held : Bool)
-    → i < length marks → mark ≡ get_or marks i d
-    → Suits file w → Keeps w.start macros old → Takes file w macros (tell (top_of before)) mark (line_of tokens mark) old held new
+pub gone_on : (file : File) (w : World) (macros : MacroTable) (tokens : List Token) (marks : List Mark) (i : ℕ) (d mark : Mark) (first old mid new : PpDone) (before after : List Section) (held : Bool) (aim : Aim)
+    → i < length marks → mark ≡ get_or marks i d → is_stopped old ≡ false
+    → Suits file w → Keeps w.start macros old → ComesBy file w macros (tell (top_of before)) mark (line_of tokens mark) old held aim mid → Does w aim mid new
     → after ≡ stacked mark.part held before
     → Gone w tokens marks first old before i → Gone w tokens marks first new after (i + 1)
-gone_on file w macros tokens marks i d mark first old new before after held l e s k h n g =
+gone_on file w macros tokens marks i d mark first old mid new before after held aim l e f s k h x n g =
     let next : drop i marks ≡ mark ∷ drop (i + 1) marks = next_of marks i d mark l e in
     let goes = subst (λ (ms : List Mark). (t : State) → Goes w tokens ms (record { past = g.past; done = old }) t → Goes w tokens marks (record { past = []; done = first }) t) next g.goes in
     let passed : Passed = record { part = mark.part; held = held } in
     record {
       past = passed ∷ g.past;
       stands = subst (Stand (passed ∷ g.past)) (sym n) (stand_on g.past before passed g.stands);
-      goes = λ t later. goes t (line mark (drop (i + 1) marks) (record { past = g.past; done = old }) held new t (as_line file w macros tokens mark g.past before old new held s k g.stands h) later);
+      goes = λ t later. goes t (line w tokens mark (drop (i + 1) marks) (record { past = g.past; done = old }) held aim mid new t f (as_line file w macros tokens mark g.past before old mid held aim s k g.stands h) x later);
     }
 
-pub gone_end : (w : World) (tokens : List Token) (marks : List Mark) (i : ℕ) (first now : PpDone) (sections : List Section) → length marks ≤ i → Gone w tokens marks first now sections i → GoesOver w tokens marks first now
+-- from the first line on they are gone over
+pub record Over (w : World) (tokens : List Token) (marks : List Mark) (old new : PpDone) : Type 0 where
+  pub last : State
+  pub goes : Goes w tokens marks (record { past = []; done = old }) last
+  pub is : new ≡ last.done
+
+pub gone_end : (w : World) (tokens : List Token) (marks : List Mark) (i : ℕ) (first now : PpDone) (sections : List Section) → length marks ≤ i → Gone w tokens marks first now sections i → Over w tokens marks first now
 gone_end w tokens marks i first now sections l g =
     let none : drop i marks ≡ [] = drop_all i marks l in
     let goes = subst (λ (ms : List Mark). (t : State) → Goes w tokens ms (record { past = g.past; done = now }) t → Goes w tokens marks (record { past = []; done = first }) t) none g.goes in
-    record { last = record { past = g.past; done = now }; goes = goes _ (end _); is = refl }
+    record { last = record { past = g.past; done = now }; goes = goes _ (end w tokens _); is = refl }
+
+pub gone_stop : (w : World) (tokens : List Token) (marks : List Mark) (i : ℕ) (first now : PpDone) (sections : List Section) → is_stopped now ≡ true
+    → Gone w tokens marks first now sections i → Over w tokens marks first now
+gone_stop w tokens marks i first now sections f g =
+    record { last = record { past = g.past; done = now }; goes = g.goes (record { past = g.past; done = now }) (stop_at w tokens (drop i marks) (record { past = g.past; done = now }) f); is = refl }

@@ -5,13 +5,21 @@ mod Branching
 mod Lying
 mod Withins
 pub mod Digits
+mod Files
+mod Adding
 mod Shapes
 mod Going
 mod Events
 mod Replaces
+mod Naming
+mod Arriving
+mod Opening
+mod Reading
 mod Placing
 mod Order
 mod Ordering
+mod Needing
+pub mod Agreeing
 pub mod Unique
 mod Existing
-mod Found
+pub mod Found

@@ -1,156 +1,165 @@
--- The tokens of a file follow one another.
-use Rattle.std.proofs.Common.{◌≡◌, ℕ, zero, suc, ◌-◌, ◌≤◌, Bool, true, false, List, [], ◌∷◌, ◌++◌, Option, Some, None, refl, sym, ap, subst, ◌∙◌, arith, length, take, drop, append_assoc, append-nil}
+-- The tokens of the document follow one another.
+use Rattle.std.proofs.Common.{◌≡◌, ℕ, zero, suc, ◌-◌, ◌≤◌, Bool, true, false, List, [], ◌∷◌, ◌++◌, Option, refl, sym, ap, subst, ◌∙◌, arith, length, take, drop, append_assoc, append-nil, inl, inr}
 use Rattle.std.proofs.Math.Seq.{drop-nil}
-use Rattle.std.specs.Prelude.{if◌then◌else◌, is_some, codes}
-use Rattle.cl_base.specs.declared.macros.Macro.{Macro}
+use Rattle.std.proofs.lemmas.Bool.Decides.{nat_tests}
+use Rattle.std.specs.Prelude.{◌⊎◌, ◌==◌, if◌then◌else◌, filter}
 use Rattle.cl_base.specs.declared.macros.MacroNo.{MacroNo}
-use Rattle.cl_base.specs.declared.token.Fault.{Fault}
 use Rattle.cl_base.specs.declared.token.PpToken.{PpToken}
 use Rattle.cl_base.specs.declared.token.Span.{Span}
 use Rattle.cl_base.specs.declared.token.Token.{Token}
-use Rattle.cl_base.specs.Tokens.{is_ident, is_word}
 use Rattle.cl_lex.specs.Order.{AreInOrder}
-use Rattle.cl_cond.specs.declared.mark.Condition.{Condition}
-use Rattle.cl_cond.specs.declared.mark.Condition.TheVariants.{If, IfDef, IfNDef, Elif, Else}
+use Rattle.cl_lex.proofs.Order.{lexed_order}
 use Rattle.cl_cond.specs.declared.mark.Mark.{Mark}
-use Rattle.cl_cond.specs.declared.mark.Part.{Part}
-use Rattle.cl_cond.specs.declared.mark.Part.TheVariants.{Line, Branch, End}
-use Rattle.cl_define.specs.Predefined.{is_reserved}
-use Rattle.cl_macro.specs.declared.define.Defined.{Defined}
-use Rattle.cl_macro.specs.declared.define.Defined.TheVariants as defined
-use Rattle.cl_macro.specs.Expansions.{IsExpansion}
+use Rattle.cl_headers.specs.declared.resolving.Resolved.{Resolved}
+use Rattle.cl_headers.specs.declared.resolving.Resolved.TheVariants as resolved
 use Rattle.cl_macro.specs.Rules.{Rules}
+use Rattle.cl_pp.specs.declared.aim.Aim.{Aim}
+use Rattle.cl_pp.specs.declared.aim.Target.{Target}
 use Rattle.cl_pp.specs.declared.done.PpDone.{PpDone}
-use Rattle.cl_pp.specs.Activity.{Question, Active, Outer, says}
-use Rattle.cl_pp.specs.Acts.{Act, Gives, Runs, Asks, Checks, Defines, act, checking, defining, directive, is_looked_at, looking, may_take, named, passed_by, taken, tested, undefining}
-use Rattle.cl_pp.specs.LineNumbers.{misfit}
-use Rattle.cl_pp.specs.Lines.{fault_at, included, is_directive, line_of, place_of, rest_of, spread_line}
-use Rattle.cl_pp.specs.Places.{InOrder, MarksLie, nowhere}
-use Rattle.cl_pp.specs.Preprocessing.{Goes, State, World, act_at, behind, rules_in}
-use Rattle.cl_pp.specs.Standing.{macro_at, number_at, with_faults}
-use Rattle.cl_pp.specs.Taking.{Becomes, Takes, defined_by}
+use Rattle.cl_pp.specs.Lines.{line_of}
+use Rattle.cl_pp.specs.Places.{Follows, InOrder, MarksLie, in_document, nowhere}
+use Rattle.cl_pp.specs.Preprocessing.{Arrival, Does, Enters, Goes, Reads, State, Stays, World, arrived, arrived_in, behind, marked}
+use Rattle.cl_pp.specs.Preprocessing.{deep, end, enters, line, nothing, once, read, stays, stop}
+use Rattle.cl_pp.specs.Standing.{is_once, number_in, with_asked_paths, with_file, with_once}
+use Rattle.cl_pp.proofs.Adding.{Adds, line_adds}
+use Rattle.cl_pp.proofs.Files.{some_number}
+use Rattle.cl_pp.proofs.Lying.{marks_lie, runs_lie}
 use Rattle.cl_pp.proofs.Order.{expanded_order}
-use Rattle.cl_pp.proofs.Shapes.{shape}
 
--- ---- only a run adds tokens
+-- ---- the tokens of one file
 
-abbrev Tells : List Token → List PpToken → Act → Type 0
-Tells line old (Gives held done) = done.tokens ≡ old
-Tells line old (Runs run done) = (done.tokens ≡ old) × (run ≡ spread_line line)
-Tells line old (Asks ts done) = done.tokens ≡ old
-Tells line old (Checks ts done) = done.tokens ≡ old
-Tells line old (Defines ts done) = done.tokens ≡ old
+abbrev AllIn : ℕ → List PpToken → Type 0
+AllIn f [] = Unit {0}
+AllIn f (t ∷ ts) = (t.at.file ≡ f) × AllIn f ts
 
-if_tells : (line : List Token) (old : List PpToken) (b : Bool) (x y : Act) → Tells line old x → Tells line old y → Tells line old (if b then x else y)
-if_tells line old true x y h k = h
-if_tells line old false x y h k = k
+follows_in : (f : ℕ) (b at : Span) → b.file ≡ f → Follows b at → at.file ≡ f
+follows_in f b at e h = elim h [
+  | inl s ↦ ap (λ (x : Span). x.file) s ∙ e
+  | inr l ↦ l.0 ∙ e
+]
 
-if_tokens : (old : List PpToken) (b : Bool) (x y : PpDone) → x.tokens ≡ old → y.tokens ≡ old → (if b then x else y).tokens ≡ old
-if_tokens old true x y h k = h
-if_tokens old false x y h k = k
+all_in : (f q : ℕ) (b : Span) (ts : List PpToken) → b.file ≡ f → InOrder b q ts → AllIn f ts
+all_in f q b [] e h = tt
+all_in f q b (t ∷ ts) e h = let x = follows_in f b t.at e h.0 in (x, all_in f q t.at ts x h.2)
 
-undefining_tells : (name : Token) (rest : List Token) (done : PpDone) → (undefining name rest done).tokens ≡ done.tokens
-undefining_tells name [] done = refl
-undefining_tells name (t ∷ ts) done = if_tokens done.tokens (is_ident t.kind) _ _ (if_tokens done.tokens (is_reserved t.text) _ _ refl refl) refl
+by_file : (b : Bool) (x : PpToken) (xs ys both : List PpToken) → both ≡ xs ++ ys → (if b then x ∷ both else both) ≡ (if b then x ∷ xs else xs) ++ ys
+by_file true x xs ys both e = ap (λ (ts : List PpToken). x ∷ ts) e
+by_file false x xs ys both e = e
 
-defining_tells : (line : List Token) (name : Token) (rest : List Token) (done : PpDone) → Tells line done.tokens (defining name rest done)
-defining_tells line name [] done = refl
-defining_tells line name (t ∷ ts) done = if_tells line done.tokens (is_ident t.kind) _ _ refl refl
+both_filtered : (xs ys : List PpToken) → in_document (xs ++ ys) ≡ in_document xs ++ in_document ys
+both_filtered [] ys = refl
+both_filtered (x ∷ xs) ys = by_file (x.at.file == 0) x (in_document xs) (in_document ys) (in_document (xs ++ ys)) (both_filtered xs ys)
 
-named_tells : (line : List Token) (name : Token) (rest : List Token) (done : PpDone) → Tells line done.tokens (named name rest done)
-named_tells line name rest done =
-    let unknown : Act = Gives false (with_faults (fault_at 5 name) done) in
-    let pragma : Act = if is_word name (codes "pragma") then Gives false done else unknown in
-    let error : Act = if is_word name (codes "error") then Gives false (with_faults (fault_at 22 name) done) else pragma in
-    let line_act : Act = if is_word name (codes "line") then checking rest done else error in
-    let include : Act = if is_word name (codes "include") then Gives false (with_faults (included rest) done) else line_act in
-    let undef : Act = if is_word name (codes "undef") then Gives false (undefining name rest done) else include in
-    if_tells line done.tokens (is_word name (codes "define")) (defining name rest done) undef (defining_tells line name rest done)
-    (if_tells line done.tokens (is_word name (codes "undef")) (Gives false (undefining name rest done)) include (undefining_tells name rest done)
-    (if_tells line done.tokens (is_word name (codes "include")) (Gives false (with_faults (included rest) done)) line_act refl
-    (if_tells line done.tokens (is_word name (codes "line")) (checking rest done) error
-    (if_tells line done.tokens (is_some (misfit (spread_line rest))) (Checks (spread_line rest) done) (Gives false done) refl refl)
-    (if_tells line done.tokens (is_word name (codes "error")) (Gives false (with_faults (fault_at 22 name) done)) pragma refl
-    (if_tells line done.tokens (is_word name (codes "pragma")) (Gives false done) unknown refl refl)))))
+own_filtered : (ts : List PpToken) → AllIn 0 ts → in_document ts ≡ ts
+own_filtered [] h = refl
+own_filtered (t ∷ ts) h = ap (λ (n : ℕ). if n == 0 then t ∷ in_document ts else in_document ts) h.0 ∙ ap (λ (xs : List PpToken). t ∷ xs) (own_filtered ts h.1)
 
-directive_tells : (line all : List Token) (done : PpDone) → Tells line done.tokens (directive all done)
-directive_tells line [] done = refl
-directive_tells line (hash ∷ []) done = refl
-directive_tells line (hash ∷ (name ∷ rest)) done = named_tells line name rest done
+not_zero : (f : ℕ) → (suc f == 0) ≡ false
+not_zero f = grind (arith, nat_tests)
 
-tested_tells : (macros : List ℕ → Option Macro) (wanted : Bool) (line rest : List Token) (done : PpDone) → Tells line done.tokens (tested macros wanted line rest done)
-tested_tells macros wanted line [] done = refl
-tested_tells macros wanted line (t ∷ ts) done = if_tells line done.tokens (is_ident t.kind) _ _ refl refl
+other_filtered : (f : ℕ) (ts : List PpToken) → AllIn (suc f) ts → in_document ts ≡ []
+other_filtered f [] h = refl
+other_filtered f (t ∷ ts) h = ap (λ (n : ℕ). if n == 0 then t ∷ in_document ts else in_document ts) h.0 ∙ ap (λ (b : Bool). if b then t ∷ in_document ts else in_document ts) (not_zero f) ∙ other_filtered f ts h.1
 
-taken_tells : (macros : List ℕ → Option Macro) (c : Condition) (line : List Token) (done : PpDone) → Tells line done.tokens (taken macros c line done)
-taken_tells macros If line done = refl
-taken_tells macros Elif line done = refl
-taken_tells macros IfDef line done = tested_tells macros true line (rest_of line) done
-taken_tells macros IfNDef line done = tested_tells macros false line (rest_of line) done
-taken_tells macros Else line done = refl
+-- ---- lines
 
-passed_tells : (c : Condition) (line : List Token) (done : PpDone) → Tells line done.tokens (passed_by c line done)
-passed_tells If line done = refl
-passed_tells Elif line done = refl
-passed_tells IfDef line done = refl
-passed_tells IfNDef line done = refl
-passed_tells Else line done = refl
+reaches : (at last : ℕ) (tokens : List Token) → AreInOrder at last tokens → at ≤ last
+reaches at last [] h = h
+reaches at last (t ∷ ts) h = let r = reaches t.to last ts h.2 in omega (arith, h.0, h.1, r)
 
-act_tells : (begins : ℕ → Option Fault) (macros : List ℕ → Option Macro) (part : Part) (answer : Question → Bool) (line : List Token) (done : PpDone)
-    → Tells line done.tokens (act begins macros part answer line done)
-act_tells begins macros Line answer line done =
-    if_tells line done.tokens (answer Active) _ _ (if_tells line done.tokens (is_directive line) _ _ (directive_tells line line (looking begins line done)) (refl, refl)) refl
-act_tells begins macros End answer line done = if_tells line done.tokens (answer Outer) _ _ refl refl
-act_tells begins macros (Branch c) answer line done =
-    if_tells line done.tokens (is_looked_at c answer) _ _
-    (if_tells line done.tokens (may_take c answer) _ _ (taken_tells macros c line (looking begins line done)) (passed_tells c line (looking begins line done))) refl
+-- what a line adds follows what is before the line
+line_order : (file : ℕ) (whole : List Token) (rules_at : Span → Rules) (numbers : List ℕ → Option MacroNo) (old new : PpDone) → (a : Adds file whole rules_at numbers old new) → (p q : ℕ) → AreInOrder p q whole
+    → (b : Span) → b.file ≡ file → b.to ≤ p → InOrder b q a.more
+line_order file whole rules_at numbers old new a p q h b f l = elim a.made [
+  | inl e ↦ let r = reaches p q whole h in subst (InOrder b q) (sym e) (omega (arith, l, r))
+  | inr m ↦ subst (InOrder b q) (sym m.2) (expanded_order file rules_at numbers p q whole m.0 m.1 h b f l)
+]
 
--- ---- what a line adds
-
-reaches : (at end : ℕ) (tokens : List Token) → AreInOrder at end tokens → at ≤ end
-reaches at end [] h = h
-reaches at end (t ∷ ts) h = let r = reaches t.to end ts h.2 in omega (arith, h.0, h.1, r)
-
-record Adds (line : List Token) (old new : List PpToken) : Type 0 where
-  more : List PpToken
-  is : new ≡ old ++ more
-  lies : (p q : ℕ) → AreInOrder p q line → (b : Span) → b.to ≤ p → InOrder b q more
-
-nothing : (line : List Token) (old new : List PpToken) → new ≡ old → Adds line old new
-nothing line old new e = record { more = []; is = e ∙ sym (append-nil old); lies = λ p q h b l. let r = reaches p q line h in omega (arith, l, r) }
-
-defined_tells : (answer : Defined) (mac : Macro) (ts : List Token) (done : PpDone) → (defined_by answer mac ts done).tokens ≡ done.tokens
-defined_tells defined.New mac ts done = refl
-defined_tells defined.Same mac ts done = refl
-defined_tells (defined.Replaced place) mac ts done = refl
-
-becomes_tells : (macros : List ℕ → Option Macro) (ts : List Token) (found : Option Macro) (old new : PpDone) → Becomes macros ts found old new → new.tokens ≡ old.tokens
-becomes_tells macros ts None old new h = ap (λ (d : PpDone). d.tokens) h
-becomes_tells macros ts (Some mac) old new h = ap (λ (d : PpDone). d.tokens) h.is ∙ defined_tells h.answer mac ts old
-
-adds : (rules_at : Span → Rules) (numbers : List ℕ → Option MacroNo) (line : List Token) (old : List PpToken) (a : Act) (held : Bool) (new : PpDone)
-    → Tells line old a → Takes rules_at numbers line a held new → Adds line old new.tokens
-adds rules_at numbers line old (Gives holds done) held new t h = nothing line old new.tokens (ap (λ (d : PpDone). d.tokens) h.1 ∙ t)
-adds rules_at numbers line old (Runs run done) held new t h = record {
-  more = h.1.all.tokens;
-  is = ap (λ (d : PpDone). d.tokens) h.1.is ∙ ap (λ (ts : List PpToken). ts ++ h.1.all.tokens) t.0;
-  lies = λ p q o b l. expanded_order rules_at numbers p q line h.1.all (subst (λ (ts : List PpToken). IsExpansion rules_at numbers ts h.1.all) t.1 h.1.expands) o b l;
-}
-adds rules_at numbers line old (Asks ts done) held new t h = nothing line old new.tokens (ap (λ (d : PpDone). d.tokens) h.is ∙ t)
-adds rules_at numbers line old (Checks ts done) held new t h = nothing line old new.tokens (ap (λ (d : PpDone). d.tokens) h.1.is ∙ t)
-adds rules_at numbers line old (Defines ts done) held new t h = nothing line old new.tokens (becomes_tells (rules_at (place_of ts)).macros ts h.1.found done new h.1.becomes ∙ t)
-
--- ---- the lines
-
-record Cut (at end : ℕ) (tokens : List Token) (n : ℕ) : Type 0 where
+record Cut (at last : ℕ) (tokens : List Token) (n : ℕ) : Type 0 where
   seam : ℕ
   front : AreInOrder at seam (take n tokens)
-  back : AreInOrder seam end (drop n tokens)
+  back : AreInOrder seam last (drop n tokens)
 
-cut : (at end : ℕ) (tokens : List Token) (n : ℕ) → AreInOrder at end tokens → Cut at end tokens n
-cut at end tokens zero h = record { seam = at; front = omega arith; back = h }
-cut at end [] (suc n) h = record { seam = at; front = omega arith; back = h }
-cut at end (t ∷ ts) (suc n) h = let c = cut t.to end ts n h.2 in record { seam = c.seam; front = (h.0, h.1, c.front); back = c.back }
+cut : (at last : ℕ) (tokens : List Token) (n : ℕ) → AreInOrder at last tokens → Cut at last tokens n
+cut at last tokens zero h = record { seam = at; front = omega arith; back = h }
+cut at last [] (suc n) h = record { seam = at; front = omega arith; back = h }
+cut at last (t ∷ ts) (suc n) h = let c = cut t.to last ts n h.2 in record { seam = c.seam; front = (h.0, h.1, c.front); back = c.back }
+
+-- ---- files that include lines enter
+
+abbrev tokens_of : Arrival → List PpToken
+tokens_of (Stays done) = done.tokens
+tokens_of (Enters number path text done) = done.tokens
+
+abbrev Numbered : Arrival → Type 0
+Numbered (Stays done) = Unit {0}
+Numbered (Enters number path text done) = 1 ≤ number
+
+if_arrives : (b : Bool) (number : ℕ) (path text : List ℕ) (done : PpDone) → tokens_of (if b then Stays done else Enters number path text (with_file path done)) ≡ done.tokens
+if_arrives true number path text done = refl
+if_arrives false number path text done = refl
+
+if_numbered : (b : Bool) (number : ℕ) (path text : List ℕ) (done : PpDone) → 1 ≤ number → Numbered (if b then Stays done else Enters number path text (with_file path done))
+if_numbered true number path text done h = tt
+if_numbered false number path text done h = h
+
+arrived_tokens : (target : Target) (found : Resolved) (done : PpDone) → tokens_of (arrived target found done) ≡ done.tokens
+arrived_tokens target (resolved.File path text) done = if_arrives (is_once done path) (number_in done.files path) path text done
+arrived_tokens target (resolved.Failed path) done = refl
+arrived_tokens target (resolved.Need path) done = refl
+arrived_tokens target resolved.Missing done = refl
+
+arrived_number : (target : Target) (found : Resolved) (done : PpDone) → Numbered (arrived target found done)
+arrived_number target (resolved.File path text) done = if_numbered (is_once done path) (number_in done.files path) path text done (some_number done.files path)
+arrived_number target (resolved.Failed path) done = tt
+arrived_number target (resolved.Need path) done = tt
+arrived_number target resolved.Missing done = tt
+
+arrival_tokens : (w : World) (target : Target) (asked : List (List ℕ)) (found : Resolved) (old : PpDone) (a : Arrival) → arrived_in w target asked found old ≡ a → tokens_of a ≡ old.tokens
+arrival_tokens w target asked found old a e = ap tokens_of (sym e) ∙ arrived_tokens target found (with_asked_paths w.known asked old)
+
+arrival_number : (w : World) (target : Target) (asked : List (List ℕ)) (found : Resolved) (old : PpDone) (a : Arrival) → arrived_in w target asked found old ≡ a → Numbered a
+arrival_number w target asked found old a e = subst Numbered e (arrived_number target found (with_asked_paths w.known asked old))
+
+if_marked : (b : Bool) (n : ℕ) (done : PpDone) → (if b then done else with_once n done).tokens ≡ done.tokens
+if_marked true n done = refl
+if_marked false n done = refl
+
+some_suc : (n : ℕ) (P : ℕ → Type 0) → 1 ≤ n → ((m : ℕ) → n ≡ suc m → P n) → P n
+some_suc zero P h k = absurd (omega (arith, h))
+some_suc (suc m) P h k = k m refl
+
+-- a line of such a file adds no token of the document
+other_line : (w : World) (tokens : List Token) (last : ℕ) (s : State) (mark : Mark) (new : PpDone) (rules_at : Span → Rules) (numbers : List ℕ → Option MacroNo) → 1 ≤ w.file → AreInOrder 0 last tokens
+    → Adds w.file (line_of tokens mark) rules_at numbers s.done new → in_document new.tokens ≡ in_document s.done.tokens
+other_line w tokens last s mark new rules_at numbers o h a =
+    let before = cut 0 last tokens mark.from h in
+    let here = cut before.seam last (drop mark.from tokens) (mark.to - mark.from) before.back in
+    let at : Span = record { file = w.file; from = 0; to = 0 } in
+    let lies = line_order w.file (line_of tokens mark) rules_at numbers s.done new a before.seam here.seam here.front at refl (omega arith) in
+    let all : AllIn w.file a.more = all_in w.file here.seam at a.more refl lies in
+    let none : in_document a.more ≡ [] = some_suc w.file (λ (n : ℕ). in_document a.more ≡ []) o (λ m e. other_filtered m a.more (subst (λ (n : ℕ). AllIn n a.more) e all)) in
+    ap in_document a.tokens ∙ both_filtered s.done.tokens a.more ∙ ap (λ (ts : List PpToken). in_document s.done.tokens ++ ts) none ∙ append-nil (in_document s.done.tokens)
+
+mutual
+  pub goes_other : {w : World} {tokens : List Token} {marks : List Mark} {s t : State} → Goes w tokens marks s t → (last : ℕ) → 1 ≤ w.file → AreInOrder 0 last tokens → in_document t.done.tokens ≡ in_document s.done.tokens
+  goes_other (end w tokens s) last o h = refl
+  goes_other (stop w tokens mark marks s e) last o h = refl
+  goes_other (line w tokens mark marks s held aim mid done t e c d g) last o h =
+      goes_other g last o h ∙ does_other d ∙ other_line w tokens last s mark mid _ _ o h (line_adds w tokens s mark held aim mid c)
+
+  pub does_other : {w : World} {aim : Aim} {old new : PpDone} → Does w aim old new → in_document new.tokens ≡ in_document old.tokens
+  does_other (nothing w done) = refl
+  does_other (once w done) = ap in_document (if_marked (w.depth == 0) w.file done)
+  does_other (deep w target done d) = refl
+  does_other (stays w target old done asked found d f e) = ap in_document (arrival_tokens w target asked found old (Stays done) e)
+  does_other (enters w target old mid done asked found number path text d f e r) =
+      reads_other r (arrival_number w target asked found old (Enters number path text mid) e) ∙ ap in_document (arrival_tokens w target asked found old (Enters number path text mid) e)
+
+  pub reads_other : {w : World} {old new : PpDone} → Reads w old new → 1 ≤ w.file → in_document new.tokens ≡ in_document old.tokens
+  reads_other (read w old lexed groups t l g d) o = goes_other d (length w.text) o (lexed_order w.text lexed l)
+
+-- ---- the document
 
 drop_on : {X : Type 0} (a b : ℕ) (xs : List X) → a ≤ b → drop (b - a) (drop a xs) ≡ drop b xs
 drop_on zero b xs l = ap (λ (n : ℕ). drop n xs) (omega arith)
@@ -158,38 +167,44 @@ drop_on (suc a) zero xs l = absurd (omega arith)
 drop_on (suc a) (suc b) [] l = drop-nil (suc b - suc a)
 drop_on (suc a) (suc b) (x ∷ xs) l = let e : suc b - suc a ≡ b - a = omega arith in ap (λ (n : ℕ). drop n (drop a xs)) e ∙ drop_on a b xs (omega arith)
 
-joined : (q end : ℕ) (xs ys : List PpToken) (b : Span) → InOrder b q xs → ((c : Span) → c.to ≤ q → InOrder c end ys) → InOrder b end (xs ++ ys)
-joined q end [] ys b h k = k b h
-joined q end (x ∷ xs) ys b h k = (h.0, h.1, joined q end xs ys x.at h.2 k)
+joined : (q last : ℕ) (xs ys : List PpToken) (b : Span) → b.file ≡ 0 → InOrder b q xs → ((c : Span) → c.file ≡ 0 → c.to ≤ q → InOrder c last ys) → InOrder b last (xs ++ ys)
+joined q last [] ys b f h k = k b f h
+joined q last (x ∷ xs) ys b f h k = (h.0, h.1, joined q last xs ys x.at (follows_in 0 b x.at f h.0) h.2 k)
 
 -- they are in order up to a byte, whatever follows them there
 abbrev Holds : ℕ → List PpToken → Type 0
-Holds p xs = (end : ℕ) (ys : List PpToken) → ((b : Span) → b.to ≤ p → InOrder b end ys) → InOrder nowhere end (xs ++ ys)
+Holds p xs = (last : ℕ) (ys : List PpToken) → ((b : Span) → b.file ≡ 0 → b.to ≤ p → InOrder b last ys) → InOrder nowhere last (xs ++ ys)
 
-holds_on : (p q : ℕ) (xs more new : List PpToken) → new ≡ xs ++ more → ((b : Span) → b.to ≤ p → InOrder b q more) → Holds p xs → Holds q new
-holds_on p q xs more new e m h end ys k =
-    subst (λ (zs : List PpToken). InOrder nowhere end (zs ++ ys)) (sym e)
-    (subst (InOrder nowhere end) (sym (append_assoc xs more ys)) (h end (more ++ ys) (λ b l. joined q end more ys b (m b l) k)))
+holds_on : (p q : ℕ) (xs more new : List PpToken) → new ≡ xs ++ more → ((b : Span) → b.file ≡ 0 → b.to ≤ p → InOrder b q more) → Holds p xs → Holds q new
+holds_on p q xs more new e m h last ys k =
+    subst (λ (zs : List PpToken). InOrder nowhere last (zs ++ ys)) (sym e)
+    (subst (InOrder nowhere last) (sym (append_assoc xs more ys)) (h last (more ++ ys) (λ b f l. joined q last more ys b f (m b f l) k)))
 
-go_order : (w : World) (tokens : List Token) (end at p : ℕ) (marks : List Mark) (s t : State) → Goes w tokens marks s t → AreInOrder p end (drop at tokens) → MarksLie at (length tokens) marks
-    → Holds p s.done.tokens → InOrder nowhere end t.done.tokens
-go_order w tokens end at p [] s t g h m k =
-    let r = reaches p end (drop at tokens) h in
-    subst (λ (x : State). InOrder nowhere end x.done.tokens) (shape w tokens [] s t g)
-    (subst (InOrder nowhere end) (append-nil s.done.tokens) (k end [] (λ b l. omega (arith, l, r))))
-go_order w tokens end at p (mark ∷ marks) s t g h m k =
-    let before = cut p end (drop at tokens) (mark.from - at) h in
-    let start : AreInOrder before.seam end (drop mark.from tokens) = subst (AreInOrder before.seam end) (drop_on at mark.from tokens m.0) before.back in
-    let line = cut before.seam end (drop mark.from tokens) (mark.to - mark.from) start in
-    let after : AreInOrder line.seam end (drop mark.to tokens) = subst (AreInOrder line.seam end) (drop_on mark.from mark.to tokens m.1) line.back in
+holds_end : (p last : ℕ) (xs : List PpToken) → p ≤ last → Holds p xs → InOrder nowhere last xs
+holds_end p last xs l k = subst (InOrder nowhere last) (append-nil xs) (k last [] (λ b f m. omega (arith, m, l)))
+
+-- what a line of the document adds
+own_line : (w : World) (whole : List Token) (rules_at : Span → Rules) (numbers : List ℕ → Option MacroNo) (old new : PpDone) (p q at : ℕ) → w.file ≡ 0 → (a : Adds w.file whole rules_at numbers old new) → AreInOrder p q whole → at ≤ p
+    → Holds at (in_document old.tokens) → Holds q (in_document new.tokens)
+own_line w whole rules_at numbers old new p q at z a h m k =
+    let lies : (b : Span) → b.file ≡ 0 → b.to ≤ at → InOrder b q a.more = λ b f l. line_order w.file whole rules_at numbers old new a p q h b (f ∙ sym z) (omega (arith, l, m)) in
+    let all : AllIn 0 a.more = all_in 0 q nowhere a.more refl (lies nowhere refl (omega arith)) in
+    holds_on at q (in_document old.tokens) a.more (in_document new.tokens) (ap in_document a.tokens ∙ both_filtered old.tokens a.more ∙ ap (λ (ts : List PpToken). in_document old.tokens ++ ts) (own_filtered a.more all)) lies k
+
+go_order : {w : World} {tokens : List Token} {marks : List Mark} {s t : State} → Goes w tokens marks s t → w.file ≡ 0 → (last at p : ℕ) → AreInOrder p last (drop at tokens) → MarksLie at (length tokens) marks
+    → Holds p (in_document s.done.tokens) → InOrder nowhere last (in_document t.done.tokens)
+go_order (end w tokens s) z last at p h m k = holds_end p last (in_document s.done.tokens) (reaches p last (drop at tokens) h) k
+go_order (stop w tokens mark marks s e) z last at p h m k = holds_end p last (in_document s.done.tokens) (reaches p last (drop at tokens) h) k
+go_order (line w tokens mark marks s held aim mid done t e c d g) z last at p h m k =
+    let before = cut p last (drop at tokens) (mark.from - at) h in
+    let start : AreInOrder before.seam last (drop mark.from tokens) = subst (AreInOrder before.seam last) (drop_on at mark.from tokens m.0) before.back in
+    let here = cut before.seam last (drop mark.from tokens) (mark.to - mark.from) start in
+    let after : AreInOrder here.seam last (drop mark.to tokens) = subst (AreInOrder here.seam last) (drop_on mark.from mark.to tokens m.1) here.back in
     let r = reaches p before.seam _ before.front in
-    let x = shape w tokens (mark ∷ marks) s t g in
-    let a = adds (rules_in w (macro_at w.start s.done)) (number_at s.done) (line_of tokens mark) s.done.tokens (act_at w tokens (macro_at w.start s.done) s mark) x.held x.done
-    (act_tells w.begins (macro_at w.start s.done) mark.part (λ q. says q 0 s.past) (line_of tokens mark) s.done) x.takes in
-    go_order w tokens end mark.to line.seam marks (behind mark x.held x.done s) t x.goes after m.2
-    (holds_on p line.seam s.done.tokens a.more x.done.tokens a.is (λ b l. a.lies before.seam line.seam line.front b (omega (arith, l, r))) k)
+    go_order g z last mark.to here.seam after m.2
+    (subst (Holds here.seam) (sym (does_other d)) (own_line w (line_of tokens mark) _ _ s.done mid before.seam here.seam p z (line_adds w tokens s mark held aim mid c) here.front r k))
 
-pub tokens_order : (w : World) (tokens : List Token) (end : ℕ) (marks : List Mark) (s t : State) → Goes w tokens marks s t → AreInOrder 0 end tokens → MarksLie 0 (length tokens) marks → s.done.tokens ≡ []
-    → InOrder nowhere end t.done.tokens
-tokens_order w tokens end marks s t g h m e =
-    go_order w tokens end 0 0 marks s t g h m (λ last ys k. subst (λ (zs : List PpToken). InOrder nowhere last (zs ++ ys)) (sym e) (k nowhere (omega arith)))
+pub document_order : {w : World} {old new : PpDone} → Reads w old new → w.file ≡ 0 → old.tokens ≡ [] → InOrder nowhere (length w.text) (in_document new.tokens)
+document_order (read w old lexed groups t l g d) z e =
+    go_order d z (length w.text) 0 0 (lexed_order w.text lexed l) (runs_lie lexed.tokens groups.marks (length lexed.tokens) (marks_lie lexed.tokens groups g))
+    (λ last ys k. subst (λ (zs : List PpToken). InOrder nowhere last (in_document zs ++ ys)) (sym e) (k nowhere refl (omega arith)))

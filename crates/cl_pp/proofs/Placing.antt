@@ -97,38 +97,39 @@ asked_made m args h = needed_made m false 0 args h
 
 -- ---- tokens of the run
 
--- between two bytes one follows the other
-abbrev pub Lie : ℕ → ℕ → List Word → Type 0
-Lie p end [] = p ≤ end
-Lie p end (w ∷ ws) = (w.given ≡ true) × (p ≤ w.token.at.from) × (w.token.at.from < w.token.at.to) × Lie w.token.at.to end ws
-
 -- those of the run end between two bytes
 abbrev Between : ℕ → ℕ → List Word → Type 0
 Between low high [] = Unit {0}
 Between low high (w ∷ ws) = (w.given ≡ true → (low ≤ w.token.at.to) × (w.token.at.to ≤ high)) × Between low high ws
 
-pub lie_reach : (p end : ℕ) (ws : List Word) → Lie p end ws → p ≤ end
-lie_reach p end [] h = h
-lie_reach p end (w ∷ ws) h = let r = lie_reach w.token.at.to end ws h.3 in omega (arith, h.1, h.2, r)
+module _ (file : ℕ) where
+  -- between two bytes of this file one follows the other
+  abbrev pub Lie : ℕ → ℕ → List Word → Type 0
+  Lie p end [] = p ≤ end
+  Lie p end (w ∷ ws) = ((w.given ≡ true) × (w.token.at.file ≡ file)) × (p ≤ w.token.at.from) × (w.token.at.from < w.token.at.to) × Lie w.token.at.to end ws
 
-record Cut (p end : ℕ) (ws : List Word) (n : ℕ) : Type 0 where
-  seam : ℕ
-  start : p ≤ seam
-  front : (low : ℕ) → low ≤ p → Between low seam (take n ws)
-  back : Lie seam end (drop n ws)
+  pub lie_reach : (p end : ℕ) (ws : List Word) → Lie p end ws → p ≤ end
+  lie_reach p end [] h = h
+  lie_reach p end (w ∷ ws) h = let r = lie_reach w.token.at.to end ws h.3 in omega (arith, h.1, h.2, r)
 
-cut : (p end : ℕ) (ws : List Word) (n : ℕ) → Lie p end ws → Cut p end ws n
-cut p end ws zero h = record { seam = p; start = omega arith; front = λ low l. tt; back = h }
-cut p end [] (suc n) h = record { seam = p; start = omega arith; front = λ low l. tt; back = h }
-cut p end (w ∷ ws) (suc n) h =
-    let c = cut w.token.at.to end ws n h.3 in
-    let s = c.start in
-    record {
-      seam = c.seam;
-      start = omega (arith, h.1, h.2, s);
-      front = λ low l. ((λ g. (omega (arith, h.1, h.2, l), s)), c.front low (omega (arith, h.1, h.2, l)));
-      back = c.back;
-    }
+  record Cut (p end : ℕ) (ws : List Word) (n : ℕ) : Type 0 where
+    seam : ℕ
+    start : p ≤ seam
+    front : (low : ℕ) → low ≤ p → Between low seam (take n ws)
+    back : Lie seam end (drop n ws)
+
+  cut : (p end : ℕ) (ws : List Word) (n : ℕ) → Lie p end ws → Cut p end ws n
+  cut p end ws zero h = record { seam = p; start = omega arith; front = λ low l. tt; back = h }
+  cut p end [] (suc n) h = record { seam = p; start = omega arith; front = λ low l. tt; back = h }
+  cut p end (w ∷ ws) (suc n) h =
+      let c = cut w.token.at.to end ws n h.3 in
+      let s = c.start in
+      record {
+        seam = c.seam;
+        start = omega (arith, h.1, h.2, s);
+        front = λ low l. ((λ g. (omega (arith, h.1, h.2, l), s)), c.front low (omega (arith, h.1, h.2, l)));
+        back = c.back;
+      }
 
 -- taken from both: none of those that were made counts
 both_between : (k n : ℕ) (work rest : List Word) (low high : ℕ) → n ≡ k - length work → AllMade work → Between low high (take n rest) → Between low high (take k (work ++ rest))
@@ -277,117 +278,118 @@ turn_takes macros w more t e = subst (Takes more) e (of_takes (meaning macros w)
 
 -- ---- what the tokens in work come to
 
--- from `to` up to where the last of the run's tokens ends that was taken; what was made stands first, and what is left of
--- the run lies behind
-pub record Laid (to end : ℕ) (out left : List Word) (ns : List Note) : Type 0 where
-  pub front : List Word
-  pub back : List Word
-  pub all : out ≡ front ++ back
-  pub made : AllMade front
-  pub seam : ℕ
-  pub low : to ≤ end_from to ns
-  pub high : end_from to ns ≤ seam
-  pub lies : Lie seam end (back ++ left)
+module _ (file : ℕ) where
+  -- from `to` up to where the last of the run's tokens ends that was taken; what was made stands first, and what is left of
+  -- the run lies behind
+  pub record Laid (to end : ℕ) (out left : List Word) (ns : List Note) : Type 0 where
+    pub front : List Word
+    pub back : List Word
+    pub all : out ≡ front ++ back
+    pub made : AllMade front
+    pub seam : ℕ
+    pub low : to ≤ end_from to ns
+    pub high : end_from to ns ≤ seam
+    pub lies : Lie file seam end (back ++ left)
 
-le_trans : (a b c : ℕ) → a ≤ b → b ≤ c → a ≤ c
-le_trans a b c h k = omega (arith, h, k)
+  le_trans : (a b c : ℕ) → a ≤ b → b ≤ c → a ≤ c
+  le_trans a b c h k = omega (arith, h, k)
 
-same_end : (to end : ℕ) (out left : List Word) (ns ms : List Note) (from : ℕ) → end_from to ms ≡ end_from from ns → to ≤ from → (r : Laid from end out left ns) → Laid to end out left ms
-same_end to end out left ns ms from e l r = record {
-  front = r.front;
-  back = r.back;
-  all = r.all;
-  made = r.made;
-  seam = r.seam;
-  low = subst (λ (x : ℕ). to ≤ x) (sym e) (le_trans to from _ l r.low);
-  high = subst (λ (x : ℕ). x ≤ r.seam) (sym e) r.high;
-  lies = r.lies;
-}
+  same_end : (to end : ℕ) (out left : List Word) (ns ms : List Note) (from : ℕ) → end_from to ms ≡ end_from from ns → to ≤ from → (r : Laid from end out left ns) → Laid to end out left ms
+  same_end to end out left ns ms from e l r = record {
+    front = r.front;
+    back = r.back;
+    all = r.all;
+    made = r.made;
+    seam = r.seam;
+    low = subst (λ (x : ℕ). to ≤ x) (sym e) (le_trans to from _ l r.low);
+    high = subst (λ (x : ℕ). x ≤ r.seam) (sym e) r.high;
+    lies = r.lies;
+  }
 
-put_first : (to end : ℕ) (ws out left : List Word) (ns : List Note) → AllMade ws → Laid to end out left ns → Laid to end (ws ++ out) left ns
-put_first to end ws out left ns m r = record {
-  front = ws ++ r.front;
-  back = r.back;
-  all = ap (λ (xs : List Word). ws ++ xs) r.all ∙ sym (append_assoc ws r.front r.back);
-  made = append_made ws r.front m r.made;
-  seam = r.seam;
-  low = r.low;
-  high = r.high;
-  lies = r.lies;
-}
+  put_first : (to end : ℕ) (ws out left : List Word) (ns : List Note) → AllMade ws → Laid to end out left ns → Laid to end (ws ++ out) left ns
+  put_first to end ws out left ns m r = record {
+    front = ws ++ r.front;
+    back = r.back;
+    all = ap (λ (xs : List Word). ws ++ xs) r.all ∙ sym (append_assoc ws r.front r.back);
+    made = append_made ws r.front m r.made;
+    seam = r.seam;
+    low = r.low;
+    high = r.high;
+    lies = r.lies;
+  }
 
--- nothing of a run was taken where there was none
-alone : (to : ℕ) (out : List Word) (ns : List Note) → Laid to to out [] ns → end_from to ns ≡ to
-alone to out ns r = let x = lie_reach r.seam to (r.back ++ []) r.lies in let lo = r.low in let hi = r.high in omega (arith, x, lo, hi)
+  -- nothing of a run was taken where there was none
+  alone : (to : ℕ) (out : List Word) (ns : List Note) → Laid to to out [] ns → end_from to ns ≡ to
+  alone to out ns r = let x = lie_reach file r.seam to (r.back ++ []) r.lies in let lo = r.low in let hi = r.high in omega (arith, x, lo, hi)
 
-module _ (rules : Rules) where
-  -- an invocation with the wrong number of arguments stays, and takes tokens of the run only where nothing is in work
-  -- behind it
-  misfit_by : (ws : List Word) (w : Word) (work rest behind out left : List Word) (ns : List Note) (to p end k n : ℕ) → ws ≡ drop k work → n ≡ k - length work
-      → behind ≡ take k (work ++ rest) → AllMade (w ∷ work) → Lie p end rest → to ≤ p
-      → (Lie p end (drop n rest) → Laid to end out left ns) → Works rules ws (drop n rest) out left ns → Laid to end (w ∷ (behind ++ out)) left ns
-  misfit_by [] w work rest behind out left ns to p end k n d e b m h l r x =
-      let s : Nothing rules (drop n rest) out left ns = shape rules x in
-      let t : end_from to ns ≡ to = ap (end_from to) s.notes in
-      let word : behind ≡ take k work ++ take n rest = b ∙ take_both k n work rest e in
-      record {
-        front = w ∷ take k work;
-        back = take n rest;
-        all = ap (λ (xs : List Word). w ∷ (xs ++ out)) word ∙ ap (λ (xs : List Word). w ∷ ((take k work ++ take n rest) ++ xs)) s.words ∙ ap (λ (xs : List Word). w ∷ xs) (append-nil (take k work ++ take n rest));
-        made = (m.0, take_made k work m.1);
-        seam = p;
-        low = subst (λ (x : ℕ). to ≤ x) (sym t) (omega arith);
-        high = subst (λ (x : ℕ). x ≤ p) (sym t) l;
-        lies = subst (Lie p end) (sym (ap (λ (xs : List Word). take n rest ++ xs) s.all ∙ take_drop n rest)) h;
-      }
-  misfit_by (y ∷ ys) w work rest behind out left ns to p end k n d e b m h l r x =
-      let z : n ≡ 0 = none_left k n work rest y ys d e in
-      let word : behind ≡ take k work = b ∙ take_both k n work rest e ∙ ap (λ (i : ℕ). take k work ++ take i rest) z ∙ append-nil (take k work) in
-      put_first to end (w ∷ behind) out left ns (m.0, subst AllMade (sym word) (take_made k work m.1)) (r (subst (λ (i : ℕ). Lie p end (drop i rest)) (sym z) h))
-
-  -- an invocation, by what its arguments and what it makes come to
-  pub invoked_laid : (w : Word) (work rest : List Word) (mac : Macro) (behind : List Word) (full : List (List Word)) (inner : List Note) (out left : List Word) (ns : List Note)
-      → turn rules.macros w (work ++ rest) ≡ Invokes mac behind → Still inner → AllMade work → (to p end : ℕ) → Lie p end rest → to ≤ p
-      → ((from q : ℕ) → Lie q end (drop (length behind - length work) rest) → from ≤ q → Laid from end out left ns)
-      → Laid to end out left (invoking w behind ++ (inner ++ (made_notes rules mac (raws mac (args_of mac behind)) full ++ ns)))
-  invoked_laid w work rest mac behind full inner out left ns t i m to p end h l r =
-      let n : ℕ = length behind - length work in
-      let c = cut p end rest n h in
-      let b : Between to c.seam behind = subst (Between to c.seam) (sym (turn_takes rules.macros w (work ++ rest) (Invokes mac behind) t)) (both_between (length behind) n work rest to c.seam refl m (c.front to l)) in
-      let x = took_within (close_of behind) to to c.seam (at_closes behind (length behind - 1) to c.seam b) (omega arith) (le_trans to p c.seam l c.start) in
-      let from : ℕ = end_from to (took (close_of behind)) in
-      let notes : List Note = made_notes rules mac (raws mac (args_of mac behind)) full in
-      let ends : end_from to (took (close_of behind) ++ (inner ++ (notes ++ ns))) ≡ end_from from ns =
-      end_append to (took (close_of behind)) (inner ++ (notes ++ ns)) ∙ still_first from inner (notes ++ ns) i ∙ still_first from notes ns (made_still rules mac (raws mac (args_of mac behind)) full) in
-      same_end to end out left ns _ from ends x.0 (r from c.seam c.back x.1)
-
-  mutual
-    pub laid : {work rest out left : List Word} {ns : List Note} → Works rules work rest out left ns → AllMade work → (to p end : ℕ) → Lie p end rest → to ≤ p → Laid to end out left ns
-    laid (done rest) m to p end h l = record { front = []; back = []; all = refl; made = tt; seam = p; low = omega arith; high = l; lies = h }
-    laid (stays w work rest out left ns t d) m to p end h l =
-        same_end to end _ left ns _ to (still_first to (looks w) ns (looks_still w)) (omega arith) (put_first to end (w ∷ []) out left ns (m.0, tt) (laid d m.1 to p end h l))
-    laid (invokes w work rest mac behind full inner out left ns t a d) m to p end h l =
-        invoked_laid w work rest mac behind full inner out left ns t (each_still a (asked_made mac (args_of mac behind) (args_made mac behind))) m.1 to p end h l
-        (λ from q lie e. laid d (append_made _ (drop (length behind) work) (made_made rules mac (raws mac (args_of mac behind)) full w.token.space (set_of w behind)) (drop_made (length behind) work m.1)) from q end lie e)
-    laid (misfits w work rest behind out left ns t d) m to p end h l =
-        let k : ℕ = length behind in
-        let n : ℕ = length behind - length work in
-        same_end to end _ left ns _ to (still_first to (stay_notes 19 w behind) ns (stay_still 19 w behind)) (omega arith)
-        (misfit_by (drop k work) w work rest behind out left ns to p end k n refl refl (turn_takes rules.macros w (work ++ rest) (Misfits behind) t) m h l
-        (λ b. laid d (drop_made k work m.1) to p end b l) d)
-    laid (open_ended w work rest t) m to p end h l =
-        let s : end_from to (stay_notes 20 w (work ++ rest)) ≡ to = stay_still 20 w (work ++ rest) to in
+  module _ (rules : Rules) where
+    -- an invocation with the wrong number of arguments stays, and takes tokens of the run only where nothing is in work
+    -- behind it
+    misfit_by : (ws : List Word) (w : Word) (work rest behind out left : List Word) (ns : List Note) (to p end k n : ℕ) → ws ≡ drop k work → n ≡ k - length work
+        → behind ≡ take k (work ++ rest) → AllMade (w ∷ work) → Lie file p end rest → to ≤ p
+        → (Lie file p end (drop n rest) → Laid to end out left ns) → Works rules ws (drop n rest) out left ns → Laid to end (w ∷ (behind ++ out)) left ns
+    misfit_by [] w work rest behind out left ns to p end k n d e b m h l r x =
+        let s : Nothing rules (drop n rest) out left ns = shape rules x in
+        let t : end_from to ns ≡ to = ap (end_from to) s.notes in
+        let word : behind ≡ take k work ++ take n rest = b ∙ take_both k n work rest e in
         record {
-          front = w ∷ work;
-          back = rest;
-          all = refl;
-          made = m;
+          front = w ∷ take k work;
+          back = take n rest;
+          all = ap (λ (xs : List Word). w ∷ (xs ++ out)) word ∙ ap (λ (xs : List Word). w ∷ ((take k work ++ take n rest) ++ xs)) s.words ∙ ap (λ (xs : List Word). w ∷ xs) (append-nil (take k work ++ take n rest));
+          made = (m.0, take_made k work m.1);
           seam = p;
-          low = subst (λ (x : ℕ). to ≤ x) (sym s) (omega arith);
-          high = subst (λ (x : ℕ). x ≤ p) (sym s) l;
-          lies = subst (Lie p end) (sym (append-nil rest)) h;
+          low = subst (λ (x : ℕ). to ≤ x) (sym t) (omega arith);
+          high = subst (λ (x : ℕ). x ≤ p) (sym t) l;
+          lies = subst (Lie file p end) (sym (ap (λ (xs : List Word). take n rest ++ xs) s.all ∙ take_drop n rest)) h;
         }
+    misfit_by (y ∷ ys) w work rest behind out left ns to p end k n d e b m h l r x =
+        let z : n ≡ 0 = none_left k n work rest y ys d e in
+        let word : behind ≡ take k work = b ∙ take_both k n work rest e ∙ ap (λ (i : ℕ). take k work ++ take i rest) z ∙ append-nil (take k work) in
+        put_first to end (w ∷ behind) out left ns (m.0, subst AllMade (sym word) (take_made k work m.1)) (r (subst (λ (i : ℕ). Lie file p end (drop i rest)) (sym z) h))
 
-    pub each_still : {args full : List (List Word)} {ns : List Note} → Each rules args full ns → EachMade args → Still ns
-    each_still none m = λ to. refl
-    each_still (next arg out args outs ns ms d e) m = still_append ns ms (λ to. alone to out ns (laid d m.0 to to to (omega arith) (omega arith))) (each_still e m.1)
+    -- an invocation, by what its arguments and what it makes come to
+    pub invoked_laid : (w : Word) (work rest : List Word) (mac : Macro) (behind : List Word) (full : List (List Word)) (inner : List Note) (out left : List Word) (ns : List Note)
+        → turn rules.macros w (work ++ rest) ≡ Invokes mac behind → Still inner → AllMade work → (to p end : ℕ) → Lie file p end rest → to ≤ p
+        → ((from q : ℕ) → Lie file q end (drop (length behind - length work) rest) → from ≤ q → Laid from end out left ns)
+        → Laid to end out left (invoking w behind ++ (inner ++ (made_notes rules mac (raws mac (args_of mac behind)) full ++ ns)))
+    invoked_laid w work rest mac behind full inner out left ns t i m to p end h l r =
+        let n : ℕ = length behind - length work in
+        let c = cut file p end rest n h in
+        let b : Between to c.seam behind = subst (Between to c.seam) (sym (turn_takes rules.macros w (work ++ rest) (Invokes mac behind) t)) (both_between (length behind) n work rest to c.seam refl m (c.front to l)) in
+        let x = took_within (close_of behind) to to c.seam (at_closes behind (length behind - 1) to c.seam b) (omega arith) (le_trans to p c.seam l c.start) in
+        let from : ℕ = end_from to (took (close_of behind)) in
+        let notes : List Note = made_notes rules mac (raws mac (args_of mac behind)) full in
+        let ends : end_from to (took (close_of behind) ++ (inner ++ (notes ++ ns))) ≡ end_from from ns =
+        end_append to (took (close_of behind)) (inner ++ (notes ++ ns)) ∙ still_first from inner (notes ++ ns) i ∙ still_first from notes ns (made_still rules mac (raws mac (args_of mac behind)) full) in
+        same_end to end out left ns _ from ends x.0 (r from c.seam c.back x.1)
+
+    mutual
+      pub laid : {work rest out left : List Word} {ns : List Note} → Works rules work rest out left ns → AllMade work → (to p end : ℕ) → Lie file p end rest → to ≤ p → Laid to end out left ns
+      laid (done rest) m to p end h l = record { front = []; back = []; all = refl; made = tt; seam = p; low = omega arith; high = l; lies = h }
+      laid (stays w work rest out left ns t d) m to p end h l =
+          same_end to end _ left ns _ to (still_first to (looks w) ns (looks_still w)) (omega arith) (put_first to end (w ∷ []) out left ns (m.0, tt) (laid d m.1 to p end h l))
+      laid (invokes w work rest mac behind full inner out left ns t a d) m to p end h l =
+          invoked_laid w work rest mac behind full inner out left ns t (each_still a (asked_made mac (args_of mac behind) (args_made mac behind))) m.1 to p end h l
+          (λ from q lie e. laid d (append_made _ (drop (length behind) work) (made_made rules mac (raws mac (args_of mac behind)) full w.token.space (set_of w behind)) (drop_made (length behind) work m.1)) from q end lie e)
+      laid (misfits w work rest behind out left ns t d) m to p end h l =
+          let k : ℕ = length behind in
+          let n : ℕ = length behind - length work in
+          same_end to end _ left ns _ to (still_first to (stay_notes 19 w behind) ns (stay_still 19 w behind)) (omega arith)
+          (misfit_by (drop k work) w work rest behind out left ns to p end k n refl refl (turn_takes rules.macros w (work ++ rest) (Misfits behind) t) m h l
+          (λ b. laid d (drop_made k work m.1) to p end b l) d)
+      laid (open_ended w work rest t) m to p end h l =
+          let s : end_from to (stay_notes 20 w (work ++ rest)) ≡ to = stay_still 20 w (work ++ rest) to in
+          record {
+            front = w ∷ work;
+            back = rest;
+            all = refl;
+            made = m;
+            seam = p;
+            low = subst (λ (x : ℕ). to ≤ x) (sym s) (omega arith);
+            high = subst (λ (x : ℕ). x ≤ p) (sym s) l;
+            lies = subst (Lie file p end) (sym (append-nil rest)) h;
+          }
+
+      pub each_still : {args full : List (List Word)} {ns : List Note} → Each rules args full ns → EachMade args → Still ns
+      each_still none m = λ to. refl
+      each_still (next arg out args outs ns ms d e) m = still_append ns ms (λ to. alone to out ns (laid d m.0 to to to (omega arith) (omega arith))) (each_still e m.1)

@@ -22,19 +22,23 @@ use Rattle.cl_pp.specs.declared.made.Reach.TheVariants as reach
 use Rattle.cl_pp.specs.Lines.{bad_if, bad_line, fault_at, is_true}
 use Rattle.cl_pp.specs.Preprocessing.{World, rules_in}
 use Rattle.cl_pp.specs.Standing.{use_at, with_asked, with_faults, with_looked, with_replaced}
-use Rattle.cl_pp.specs.Acts.{Act, Defines, Gives, defining, named}
+use Rattle.cl_pp.specs.Acts.{Act, Defines, Gives, defining, plain}
 use Rattle.cl_pp.specs.LineNumbers.{misfit}
 use Rattle.cl_pp.specs.Taking.{IsChecked, IsCondition, IsDefinition, IsRun, Takes}
 use Rattle.cl_pp.specs.code.Keeping.{Replaces, before_of}
+use Rattle.cl_pp.specs.code.Operands.{IsOperand}
 
 pub replaced_is : (before : ℕ → ℕ) (all : Expanded) (old look new : PpDone) (names : List (List ℕ)) (us : List MacroUse)
-    → look ≡ with_looked names old → names ≡ all.looked → us ≡ all.uses → new.tokens ≡ look.tokens → new.events ≡ look.events → new.looked ≡ look.looked
+    → look ≡ with_looked names old → names ≡ all.looked → us ≡ all.uses → new.tokens ≡ look.tokens → new.events ≡ look.events → new.looked ≡ look.looked → new.files ≡ look.files → new.once ≡ look.once → new.deps ≡ look.deps
     → new.uses ≡ look.uses ++ map (use_at before) us → new.faults ≡ look.faults ++ all.faults → new ≡ with_replaced before all old
-replaced_is before all old look new names us l n u t e k v f =
+replaced_is before all old look new names us l n u t e k fi on de v f =
     let h : look ≡ with_looked all.looked old = l ∙ ap (λ (ns : List (List ℕ)). with_looked ns old) n in
     λ i. record {
       tokens = (t ∙ ap (λ (d : PpDone). d.tokens) h) i;
       events = (e ∙ ap (λ (d : PpDone). d.events) h) i;
+      files = (fi ∙ ap (λ (d : PpDone). d.files) h) i;
+      once = (on ∙ ap (λ (d : PpDone). d.once) h) i;
+      deps = (de ∙ ap (λ (d : PpDone). d.deps) h) i;
       uses = (v ∙ (λ j. (h j).uses ++ map (use_at before) (u j))) i;
       looked = (k ∙ ap (λ (d : PpDone). d.looked) h) i;
       faults = (f ∙ ap (λ (d : PpDone). d.faults ++ all.faults) h) i;
@@ -48,8 +52,8 @@ by_path w macros numbers path run all e h = subst (λ (p : List ℕ). IsExpansio
 -- a run of text
 pub run_is : (rules_at : Span → Rules) (numbers : List ℕ → Option MacroNo) (base : ℕ) (run line tokens : List PpToken) (old mid new : PpDone)
     → Replaces rules_at numbers (before_of (reach.Run base)) run tokens old mid → run ≡ line → base ≡ length old.tokens
-    → new.tokens ≡ mid.tokens ++ tokens → new.events ≡ mid.events → new.uses ≡ mid.uses → new.looked ≡ mid.looked → new.faults ≡ mid.faults → IsRun rules_at numbers line old new
-run_is rules_at numbers base run line tokens old mid new r e b t v u l f =
+    → new.tokens ≡ mid.tokens ++ tokens → new.events ≡ mid.events → new.files ≡ mid.files → new.once ≡ mid.once → new.deps ≡ mid.deps → new.uses ≡ mid.uses → new.looked ≡ mid.looked → new.faults ≡ mid.faults → IsRun rules_at numbers line old new
+run_is rules_at numbers base run line tokens old mid new r e b t v fi on de u l f =
     let h : mid ≡ with_replaced (λ (n : ℕ). length old.tokens + n) r.all old = r.is ∙ ap (λ (k : ℕ). with_replaced (λ (n : ℕ). k + n) r.all old) b in
     record {
       all = r.all;
@@ -57,6 +61,9 @@ run_is rules_at numbers base run line tokens old mid new r e b t v u l f =
       is = λ i. record {
         tokens = (t ∙ (λ j. (h j).tokens ++ r.made j)) i;
         events = (v ∙ ap (λ (d : PpDone). d.events) h) i;
+        files = (fi ∙ ap (λ (d : PpDone). d.files) h) i;
+        once = (on ∙ ap (λ (d : PpDone). d.once) h) i;
+        deps = (de ∙ ap (λ (d : PpDone). d.deps) h) i;
         uses = (u ∙ ap (λ (d : PpDone). d.uses) h) i;
         looked = (l ∙ ap (λ (d : PpDone). d.looked) h) i;
         faults = (f ∙ ap (λ (d : PpDone). d.faults) h) i;
@@ -69,12 +76,12 @@ pub asked_is : (rules_at : Span → Rules) (numbers : List ℕ → Option MacroN
 asked_is rules_at numbers base run tokens old new r b = r.is ∙ ap (λ (k : ℕ). with_replaced (λ (n : ℕ). k) r.all old) b
 
 -- a condition
-pub condition_is : (rules_at : Span → Rules) (numbers : List ℕ → Option MacroNo) (line : List Token) (base : ℕ) (run wanted tokens valued blamed : List PpToken) (names asked : List (List ℕ)) (old look mid new : PpDone) (value : IfValue) (held : Bool)
+pub condition_is : (file : ℕ) (rules_at : Span → Rules) (numbers : List ℕ → Option MacroNo) (line : List Token) (base : ℕ) (run wanted tokens valued blamed : List PpToken) (names asked : List (List ℕ)) (old look mid new : PpDone) (value : IfValue) (held : Bool)
     → look ≡ with_looked names old → names ≡ asked → Replaces rules_at numbers (before_of (reach.Directive base)) run tokens look mid → base ≡ length look.tokens → run ≡ wanted
     → EvaluatesTo (words_from 0 valued) value → valued ≡ tokens → blamed ≡ tokens → held ≡ is_true value
-    → new.tokens ≡ mid.tokens → new.events ≡ mid.events → new.uses ≡ mid.uses → new.looked ≡ mid.looked → new.faults ≡ mid.faults ++ bad_if value blamed line
-    → IsCondition rules_at numbers line wanted (with_looked asked old) held new
-condition_is rules_at numbers line base run wanted tokens valued blamed names asked old look mid new value held l n r b e ev sv sb h nt ne nu nl nf =
+    → new.tokens ≡ mid.tokens → new.events ≡ mid.events → new.files ≡ mid.files → new.once ≡ mid.once → new.deps ≡ mid.deps → new.uses ≡ mid.uses → new.looked ≡ mid.looked → new.faults ≡ mid.faults ++ bad_if file value blamed line
+    → IsCondition file rules_at numbers line wanted (with_looked asked old) held new
+condition_is file rules_at numbers line base run wanted tokens valued blamed names asked old look mid new value held l n r b e ev sv sb h nt ne fi on de nu nl nf =
     let s : look ≡ with_looked asked old = l ∙ ap (λ (ns : List (List ℕ)). with_looked ns old) n in
     let m : mid ≡ with_asked r.all (with_looked asked old) = asked_is rules_at numbers base run tokens look mid r b ∙ ap (λ (d : PpDone). with_asked r.all d) s in
     record {
@@ -86,19 +93,22 @@ condition_is rules_at numbers line base run wanted tokens valued blamed names as
       is = λ i. record {
         tokens = (nt ∙ ap (λ (d : PpDone). d.tokens) m) i;
         events = (ne ∙ ap (λ (d : PpDone). d.events) m) i;
+        files = (fi ∙ ap (λ (d : PpDone). d.files) m) i;
+        once = (on ∙ ap (λ (d : PpDone). d.once) m) i;
+        deps = (de ∙ ap (λ (d : PpDone). d.deps) m) i;
         uses = (nu ∙ ap (λ (d : PpDone). d.uses) m) i;
         looked = (nl ∙ ap (λ (d : PpDone). d.looked) m) i;
-        faults = (nf ∙ (λ j. (m j).faults ++ bad_if value ((sb ∙ r.made) j) line)) i;
+        faults = (nf ∙ (λ j. (m j).faults ++ bad_if file value ((sb ∙ r.made) j) line)) i;
       };
     }
 
 -- an operand of `#line`
-pub checked_is : (rules_at : Span → Rules) (numbers : List ℕ → Option MacroNo) (line : List Token) (base : ℕ) (run tokens seen blamed : List PpToken) (old mid new : PpDone) (place : Option ℕ)
+pub checked_is : (file : ℕ) (rules_at : Span → Rules) (numbers : List ℕ → Option MacroNo) (line : List Token) (base : ℕ) (run tokens seen blamed : List PpToken) (old mid new : PpDone) (place : Option ℕ)
     → Replaces rules_at numbers (before_of (reach.Directive base)) run tokens old mid → base ≡ length old.tokens
     → place ≡ misfit seen → seen ≡ tokens → blamed ≡ tokens
-    → new.tokens ≡ mid.tokens → new.events ≡ mid.events → new.uses ≡ mid.uses → new.looked ≡ mid.looked → new.faults ≡ mid.faults ++ bad_line place blamed line
-    → IsChecked rules_at numbers line run old new
-checked_is rules_at numbers line base run tokens seen blamed old mid new place r b p s t nt ne nu nl nf =
+    → new.tokens ≡ mid.tokens → new.events ≡ mid.events → new.files ≡ mid.files → new.once ≡ mid.once → new.deps ≡ mid.deps → new.uses ≡ mid.uses → new.looked ≡ mid.looked → new.faults ≡ mid.faults ++ bad_line file place blamed line
+    → IsChecked file rules_at numbers line run old new
+checked_is file rules_at numbers line base run tokens seen blamed old mid new place r b p s t nt ne fi on de nu nl nf =
     let m : mid ≡ with_asked r.all old = asked_is rules_at numbers base run tokens old mid r b in
     record {
       all = r.all;
@@ -106,25 +116,39 @@ checked_is rules_at numbers line base run tokens seen blamed old mid new place r
       is = λ i. record {
         tokens = (nt ∙ ap (λ (d : PpDone). d.tokens) m) i;
         events = (ne ∙ ap (λ (d : PpDone). d.events) m) i;
+        files = (fi ∙ ap (λ (d : PpDone). d.files) m) i;
+        once = (on ∙ ap (λ (d : PpDone). d.once) m) i;
+        deps = (de ∙ ap (λ (d : PpDone). d.deps) m) i;
         uses = (nu ∙ ap (λ (d : PpDone). d.uses) m) i;
         looked = (nl ∙ ap (λ (d : PpDone). d.looked) m) i;
-        faults = (nf ∙ (λ j. (m j).faults ++ bad_line ((p ∙ ap misfit (s ∙ r.made)) j) ((t ∙ r.made) j) line)) i;
+        faults = (nf ∙ (λ j. (m j).faults ++ bad_line file ((p ∙ ap misfit (s ∙ r.made)) j) ((t ∙ r.made) j) line)) i;
       };
     }
 
 -- a definition
-pub defines_by : (rules_at : Span → Rules) (numbers : List ℕ → Option MacroNo) (line : List Token) (name token : Token) (rest more : List Token) (old new : PpDone)
-    → rest ≡ token ∷ more → is_ident token.kind ≡ true → IsDefinition rules_at rest old new → Takes rules_at numbers line (defining name rest old) false new
-defines_by rules_at numbers line name token rest more old new e b h =
-    subst (λ (ts : List Token). Takes rules_at numbers line (defining name ts old) false new) (sym e)
-    (subst (λ (x : Bool). Takes rules_at numbers line (if x then Defines (token ∷ more) old else Gives false (with_faults (fault_at 6 name) old)) false new) (sym b)
-    (refl, subst (λ (ts : List Token). IsDefinition rules_at ts old new) e h))
+pub defines_by : (file : ℕ) (rules_at : Span → Rules) (numbers : List ℕ → Option MacroNo) (line : List Token) (name token : Token) (rest more : List Token) (old new : PpDone)
+    → rest ≡ token ∷ more → is_ident token.kind ≡ true → IsDefinition file rules_at rest old new → Takes file rules_at numbers line (defining file name rest old) false new
+defines_by file rules_at numbers line name token rest more old new e b h =
+    subst (λ (ts : List Token). Takes file rules_at numbers line (defining file name ts old) false new) (sym e)
+    (subst (λ (x : Bool). Takes file rules_at numbers line (if x then Defines (token ∷ more) old else Gives false (with_faults (fault_at file 6 name) old)) false new) (sym b)
+    (refl, subst (λ (ts : List Token). IsDefinition file rules_at ts old new) e h))
 
 if_is : (b : Bool) (x y : Act) → b ≡ true → (if b then x else y) ≡ x
 if_is b x y e = ap (λ (c : Bool). if c then x else y) e
 
-pub named_define : (rules_at : Span → Rules) (numbers : List ℕ → Option MacroNo) (line : List Token) (name : Token) (rest : List Token) (old new : PpDone) (r : Result (Unit {0}) Memory)
-    → is_word name (codes "define") ≡ true → OnOk r (Takes rules_at numbers line (defining name rest old) false new) → OnOk r (Takes rules_at numbers line (named name rest old) false new)
-named_define rules_at numbers line name rest old new r e h =
-    let same : named name rest old ≡ defining name rest old = if_is (is_word name (codes "define")) (defining name rest old) _ e in
-    subst (λ (a : Act). OnOk r (Takes rules_at numbers line a false new)) (sym same) h
+pub plain_define : (file : ℕ) (rules_at : Span → Rules) (numbers : List ℕ → Option MacroNo) (line : List Token) (name : Token) (rest : List Token) (old new : PpDone) (r : Result (Unit {0}) Memory)
+    → is_word name (codes "define") ≡ true → OnOk r (Takes file rules_at numbers line (defining file name rest old) false new) → OnOk r (Takes file rules_at numbers line (plain file name rest old) false new)
+plain_define file rules_at numbers line name rest old new r e h =
+    let same : plain file name rest old ≡ defining file name rest old = if_is (is_word name (codes "define")) (defining file name rest old) _ e in
+    subst (λ (a : Act). OnOk r (Takes file rules_at numbers line a false new)) (sym same) h
+
+-- the operand of an include line
+pub operand_is : (b : Bool) (rules_at : Span → Rules) (numbers : List ℕ → Option MacroNo) (base : ℕ) (run wanted tokens : List PpToken) (old new : PpDone) → b ≡ false
+    → Replaces rules_at numbers (before_of (reach.Directive base)) run tokens old new → base ≡ length old.tokens → run ≡ wanted → IsOperand b rules_at numbers wanted tokens old new
+operand_is b rules_at numbers base run wanted tokens old new e r l w =
+    subst (λ (x : Bool). IsOperand x rules_at numbers wanted tokens old new) (sym e) (record {
+      all = r.all;
+      expands = subst (λ (ts : List PpToken). IsExpansion rules_at numbers ts r.all) w r.expands;
+      made = r.made;
+      is = asked_is rules_at numbers base run tokens old new r l;
+    })

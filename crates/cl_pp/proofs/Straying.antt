@@ -11,14 +11,14 @@ use Rattle.cl_pp.specs.Lines.{or_else, stray, strays, told}
 pub next_of : {X : Type 0} → (xs : List X) (i : ℕ) (d x : X) → i < length xs → x ≡ get_or xs i d → drop i xs ≡ x ∷ drop (i + 1) xs
 next_of xs i d x l e = drop-cons xs i d l ∙ ap (λ y. y ∷ drop (suc i) xs) (sym e) ∙ ap (λ (k : ℕ). x ∷ drop k xs) (sym (add-one i))
 
-pub strays_on : (begins : ℕ → Option Fault) (line : List Token) (i : ℕ) (token : Token) (first old new : List Diag) → i < length line → token ≡ get_or line i token
-    → first ++ strays begins line ≡ old ++ strays begins (drop i line) → new ≡ old ++ stray begins token.kind token → first ++ strays begins line ≡ new ++ strays begins (drop (i + 1) line)
-strays_on begins line i token first old new l e h n =
-    h ∙ ap (λ (ts : List Token). old ++ strays begins ts) (next_of line i token token l e) ∙ sym (append_assoc old (stray begins token.kind token) (strays begins (drop (i + 1) line)))
-    ∙ ap (λ (xs : List Diag). xs ++ strays begins (drop (i + 1) line)) (sym n)
+pub strays_on : (file : ℕ) (begins : ℕ → Option Fault) (line : List Token) (i : ℕ) (token : Token) (first old new : List Diag) → i < length line → token ≡ get_or line i token
+    → first ++ strays file begins line ≡ old ++ strays file begins (drop i line) → new ≡ old ++ stray file begins token.kind token → first ++ strays file begins line ≡ new ++ strays file begins (drop (i + 1) line)
+strays_on file begins line i token first old new l e h n =
+    h ∙ ap (λ (ts : List Token). old ++ strays file begins ts) (next_of line i token token l e) ∙ sym (append_assoc old (stray file begins token.kind token) (strays file begins (drop (i + 1) line)))
+    ∙ ap (λ (xs : List Diag). xs ++ strays file begins (drop (i + 1) line)) (sym n)
 
-pub strays_all : (begins : ℕ → Option Fault) (line : List Token) (i : ℕ) (first old : List Diag) → length line ≤ i → first ++ strays begins line ≡ old ++ strays begins (drop i line) → old ≡ first ++ strays begins line
-strays_all begins line i first old l h = sym (h ∙ ap (λ (xs : List Diag). old ++ xs) (at_drop_all (strays begins) line i l) ∙ append-nil old)
+pub strays_all : (file : ℕ) (begins : ℕ → Option Fault) (line : List Token) (i : ℕ) (first old : List Diag) → length line ≤ i → first ++ strays file begins line ≡ old ++ strays file begins (drop i line) → old ≡ first ++ strays file begins line
+strays_all file begins line i first old l h = sym (h ∙ ap (λ (xs : List Diag). old ++ xs) (at_drop_all (strays file begins) line i l) ∙ append-nil old)
 
 -- ---- one fault more
 

@@ -11,19 +11,19 @@ use Rattle.cl_pp.specs.Defined.{decided_from, number_for, operand_name, spread, 
 use Rattle.cl_pp.specs.Lines.{rest_of, spread_line}
 use Rattle.cl_pp.specs.Places.{Within}
 
-pub within_spread : (text : List ℕ) (line : List Token) → Within (length text) line → AreWithin text (map fresh (spread_line line))
-within_spread text [] h = tt
-within_spread text (t ∷ ts) h = (h.0, within_spread text ts h.1)
+pub within_spread : (file : ℕ) (text : List ℕ) (line : List Token) → Within (length text) line → AreWithin text (map fresh (spread_line file line))
+within_spread file text [] h = tt
+within_spread file text (t ∷ ts) h = (h.0, within_spread file text ts h.1)
 
 one_within : (b : Bool) (end : ℕ) (x y : PpToken) → x.at.from ≤ end → y.at.from ≤ end → (if b then x else y).at.from ≤ end
 one_within true end x y h k = h
 one_within false end x y h k = k
 
-pub within_decided : (macros : List ℕ → Option Macro) (text : List ℕ) (n : ℕ) (ts : List Token) → Within (length text) ts → AreWithin text (map fresh (decided_from macros n ts))
-within_decided macros text n [] h = tt
-within_decided macros text (suc n) (t ∷ ts) h = within_decided macros text n ts h.1
-within_decided macros text zero (t ∷ ts) h =
-    (one_within (taken t ts == 0) (length text) (spread t) (number_for (is_some (macros (operand_name ts))) t (taken t ts) ts) h.0 h.0, within_decided macros text (taken t ts) ts h.1)
+pub within_decided : (file : ℕ) (macros : List ℕ → Option Macro) (text : List ℕ) (n : ℕ) (ts : List Token) → Within (length text) ts → AreWithin text (map fresh (decided_from file macros n ts))
+within_decided file macros text n [] h = tt
+within_decided file macros text (suc n) (t ∷ ts) h = within_decided file macros text n ts h.1
+within_decided file macros text zero (t ∷ ts) h =
+    (one_within (taken t ts == 0) (length text) (spread file t) (number_for file (is_some (macros (operand_name ts))) t (taken t ts) ts) h.0 h.0, within_decided file macros text (taken t ts) ts h.1)
 
 pub within_rest : (end : ℕ) (line : List Token) → Within end line → Within end (rest_of line)
 within_rest end [] h = tt

@@ -8,12 +8,13 @@ use Rattle.cl_base.specs.declared.token.PpToken.{PpToken}
 use Rattle.cl_base.specs.declared.macros.Macro.{Macro}
 use Rattle.cl_base.specs.Tokens.{is_ident, is_word, spells}
 
--- a token of the document, which is the file 0
-abbrev pub span_at : ℕ → ℕ → Span
-span_at from to = record { file = 0; from = from; to = to }
+-- a place in the file of this number
+abbrev pub span_at : ℕ → ℕ → ℕ → Span
+span_at file from to = record { file = file; from = from; to = to }
 
-abbrev pub spread : Token → PpToken
-spread token = record { kind = token.kind; text = token.text; space = token.space; spell = Some (span_at token.from token.to); at = span_at token.from token.to }
+-- a token where it is written
+abbrev pub spread : ℕ → Token → PpToken
+spread file token = record { kind = token.kind; text = token.text; space = token.space; spell = Some (span_at file token.from token.to); at = span_at file token.from token.to }
 
 -- how many tokens are the operand of a `defined` before them: a name, or a name in parentheses; 0 where none stands there
 abbrev pub closed_len : Bool → List Token → ℕ
@@ -58,18 +59,18 @@ abbrev pub digit : Bool → List ℕ
 digit holds = if holds then codes "1" else codes "0"
 
 -- a number in place of the token and those that belong to it
-abbrev pub number_for : Bool → Token → ℕ → List Token → PpToken
-number_for holds token n ts = record {
+abbrev pub number_for : ℕ → Bool → Token → ℕ → List Token → PpToken
+number_for file holds token n ts = record {
   kind = kind.Number;
   text = digit holds;
   space = token.space;
   spell = None;
-  at = span_at token.from (end_after token n ts);
+  at = span_at file token.from (end_after token n ts);
 }
 
-module _ (macros : List ℕ → Option Macro) where
+module _ (file : ℕ) (macros : List ℕ → Option Macro) where
   abbrev pub replaced : Token → List Token → PpToken
-  replaced token ts = if taken token ts == 0 then spread token else number_for (is_some (macros (operand_name ts))) token (taken token ts) ts
+  replaced token ts = if taken token ts == 0 then spread file token else number_for file (is_some (macros (operand_name ts))) token (taken token ts) ts
 
   -- the tokens of a condition, where so many belong to what is before
   abbrev pub decided_from : ℕ → List Token → List PpToken

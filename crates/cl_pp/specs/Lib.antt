@@ -4,10 +4,12 @@ pub mod Activity
 pub mod Branching
 pub mod Lines
 pub mod LineNumbers
+pub mod Including
 pub mod Runs
 pub mod Standing
 pub mod Acts
 pub mod Taking
 pub mod Preprocessing
+pub mod Before
 pub mod Places
 pub mod code

@@ -3,3 +3,5 @@ pub mod Keeping
 pub mod Going
 pub mod Numbers
 pub mod Defining
+pub mod Operands
+pub mod Reaching

@@ -53,31 +53,31 @@ pub(crate) fn taken(
     line: &[Token],
 ) -> Mem<bool>
     requires { Sees made.now }
-    ensures done { (w : World) → Suits file.now w → Within (length w.text) line.now → IfOk result (λ held. Takes (rules_in w (lookup table.now)) (number_of table.now) line.now (taken (lookup table.now) condition line.now made.old.done) held made.new.done) }
+    ensures done { (w : World) → Suits file.now w → Within (length w.text) line.now → IfOk result (λ held. Takes file.now.number (rules_in w (lookup table.now)) (number_of table.now) line.now (taken file.now.number (lookup table.now) condition line.now made.old.done) held made.new.done) }
     ensures events { OnOk result (made.new.done.events ≡ made.old.done.events) }
     ensures sees { OnOk result (Sees made.new) }
 {
     match condition {
         Condition::If | Condition::Elif => ask(alloc, file, table, made, line),
-        Condition::IfDef => tested(alloc, table, made, true, line),
-        Condition::IfNDef => tested(alloc, table, made, false, line),
+        Condition::IfDef => tested(alloc, file.number, table, made, true, line),
+        Condition::IfNDef => tested(alloc, file.number, table, made, false, line),
         Condition::Else => {
-            extra(&mut made.done.faults, rest_of(line))?;
+            extra(&mut made.done.faults, file.number, rest_of(line))?;
             Ok(true)
         }
     }
 }
 
 /// Goes over the line of a branch that may not be taken, and answers whether it is an `#else`.
-pub(crate) fn passed_by(made: &mut Made, condition: Condition, line: &[Token]) -> Mem<bool>
+pub(crate) fn passed_by(made: &mut Made, file: u32, condition: Condition, line: &[Token]) -> Mem<bool>
     requires { Sees made.now }
-    ensures done { IfOk result (λ held. passed_by condition line.now made.old.done ≡ Gives held made.new.done) }
+    ensures done { IfOk result (λ held. passed_by file condition line.now made.old.done ≡ Gives held made.new.done) }
     ensures events { OnOk result (made.new.done.events ≡ made.old.done.events) }
     ensures sees { OnOk result (Sees made.new) }
 {
     match condition {
         Condition::Else => {
-            extra(&mut made.done.faults, rest_of(line))?;
+            extra(&mut made.done.faults, file, rest_of(line))?;
             Ok(true)
         }
         Condition::If | Condition::IfDef | Condition::IfNDef | Condition::Elif => Ok(false),
@@ -94,26 +94,27 @@ fn by_name(wanted: bool, defined: bool) -> bool
 /// Goes over an `#ifdef` or `#ifndef`, and answers whether its condition is fulfilled.
 fn tested(
     alloc: Global,
+    file: u32,
     table: &MacroTable,
     made: &mut Made,
     wanted: bool,
     line: &[Token],
 ) -> Mem<bool>
     requires { Sees made.now }
-    ensures done { IfOk result (λ held. tested (lookup table.now) wanted line.now (rest_of line.now) made.old.done ≡ Gives held made.new.done) }
+    ensures done { IfOk result (λ held. tested file (lookup table.now) wanted line.now (rest_of line.now) made.old.done ≡ Gives held made.new.done) }
     ensures events { OnOk result (made.new.done.events ≡ made.old.done.events) }
     ensures sees { OnOk result (Sees made.new) }
 {
     let Some((name, rest)) = rest_of(line).split_first() else {
-        nameless(&mut made.done.faults, line)?;
+        nameless(&mut made.done.faults, file, line)?;
         return Ok(false);
     };
     if !name.kind.is_ident() {
-        nameless(&mut made.done.faults, line)?;
+        nameless(&mut made.done.faults, file, line)?;
         return Ok(false);
     }
     look(alloc, made, &name.text)?;
-    extra(&mut made.done.faults, rest)?;
+    extra(&mut made.done.faults, file, rest)?;
     let defined = is_defined(alloc, table, &name.text)?;
     Ok(by_name(wanted, defined))
 }
@@ -121,17 +122,17 @@ fn tested(
 /// Goes over an `#if` or `#elif`, and answers whether its condition is fulfilled.
 fn ask(alloc: Global, file: &File, table: &MacroTable, made: &mut Made, line: &[Token]) -> Mem<bool>
     requires { Sees made.now }
-    ensures done { (w : World) → Suits file.now w → Within (length w.text) line.now → IfOk result (λ held. Takes (rules_in w (lookup table.now)) (number_of table.now) line.now (asking (lookup table.now) line.now made.old.done) held made.new.done) }
+    ensures done { (w : World) → Suits file.now w → Within (length w.text) line.now → IfOk result (λ held. Takes file.now.number (rules_in w (lookup table.now)) (number_of table.now) line.now (asking file.now.number (lookup table.now) line.now made.old.done) held made.new.done) }
     ensures events { OnOk result (made.new.done.events ≡ made.old.done.events) }
     ensures sees { OnOk result (Sees made.new) }
 {
     let names = asked(alloc, rest_of(line))?;
     look_all(alloc, made, names.as_slice())?;
-    let tokens = decided(alloc, table, rest_of(line))?;
+    let tokens = decided(alloc, file.number, table, rest_of(line))?;
     let reach = Reach::Directive(made.done.tokens.len() as u32);
     let tokens = replaced(alloc, file, table, made, reach, tokens.as_slice())?;
     let value = eval_if(alloc, tokens.as_slice())?;
-    bad_if(&mut made.done.faults, value, tokens.as_slice(), line)?;
+    bad_if(&mut made.done.faults, file.number, value, tokens.as_slice(), line)?;
     Ok(is_true(value))
 }
 
@@ -146,11 +147,11 @@ fn is_true(value: IfValue) -> bool
 }
 
 /// Adds fault 15, if a condition is at fault.
-fn bad_if(faults: &mut List<Diag>, value: IfValue, made: &[PpToken], line: &[Token]) -> Mem<()>
-    ensures { OnOk result (faults.new ≡ faults.old ++ bad_if value made.now line.now) }
+fn bad_if(faults: &mut List<Diag>, file: u32, value: IfValue, made: &[PpToken], line: &[Token]) -> Mem<()>
+    ensures { OnOk result (faults.new ≡ faults.old ++ bad_if file value made.now line.now) }
 {
     match value {
-        IfValue::BadIf { place } => fault_in(faults, 15, made, place as usize, line),
+        IfValue::BadIf { place } => fault_in(faults, file, 15, made, place as usize, line),
         IfValue::Value { .. } => Ok(()),
     }
 }

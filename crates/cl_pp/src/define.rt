@@ -1,13 +1,13 @@
 //! Definitions (N1570 6.10.3).
 
-ghost use Rattle.std.specs.Prelude.{◌≡◌, ◌++◌, ◌∷◌, [], ℕ, List as TheList, Option, Some, false, OnOk};
-ghost use Rattle.cl_base.specs.declared.macros.Macro.{Macro as TheMacro};
+ghost use Rattle.std.specs.Prelude.{◌≡◌, ◌++◌, ◌∷◌, [], List as TheList, Some, false, OnOk};
 ghost use Rattle.cl_base.specs.declared.token.Token.{Token as TheToken};
 ghost use Rattle.cl_pp.specs.Acts.{defining};
 ghost use Rattle.cl_pp.specs.Lines.{invalid, place_of, redefined};
 ghost use Rattle.cl_pp.specs.Preprocessing.{World, rules_in};
 ghost use Rattle.cl_pp.specs.Taking.{IsDefinition, IsGiven, Takes};
 ghost use Rattle.cl_pp.specs.code.Defining.{defined_after, event_of};
+ghost use Rattle.cl_pp.specs.Standing.{Start};
 ghost use Rattle.cl_pp.specs.code.Keeping.{Keeps, Sees, lookup, number_of};
 
 use crate::line::add;
@@ -22,69 +22,70 @@ use std::alloc::Global;
 /// Goes over a `#define`.
 pub(crate) fn defining(
     alloc: Global,
+    file: u32,
     table: &mut MacroTable,
     made: &mut Made,
     name: &Token,
     rest: &[Token],
 ) -> Mem<()>
     requires { Sees made.now }
-    ensures done { (w : World) (line : TheList TheToken) → OnOk result (Takes (rules_in w (lookup table.old)) (number_of table.old) line (defining name.now rest.now made.old.done) false made.new.done) }
-    ensures keeps { (start : TheList ℕ → Option TheMacro) → Keeps start table.old made.old.done → OnOk result (Keeps start table.new made.new.done) }
+    ensures done { (w : World) (line : TheList TheToken) → OnOk result (Takes file (rules_in w (lookup table.old)) (number_of table.old) line (defining file name.now rest.now made.old.done) false made.new.done) }
+    ensures keeps { (start : Start) → Keeps start table.old made.old.done → OnOk result (Keeps start table.new made.new.done) }
     ensures sees { OnOk result (Sees made.new) }
 {
     let Some((token, _)) = rest.split_first() else {
-        return add(&mut made.done.faults, 6, name);
+        return add(&mut made.done.faults, file, 6, name);
     };
     if !token.kind.is_ident() {
-        return add(&mut made.done.faults, 6, name);
+        return add(&mut made.done.faults, file, 6, name);
     }
-    define(alloc, table, made, rest)?;
+    define(alloc, file, table, made, rest)?;
     Ok(())
 }
 
 /// Goes over the tokens behind `define`.
-fn define(alloc: Global, table: &mut MacroTable, made: &mut Made, tokens: &[Token]) -> Mem<()>
+fn define(alloc: Global, file: u32, table: &mut MacroTable, made: &mut Made, tokens: &[Token]) -> Mem<()>
     requires { Sees made.now }
-    ensures done { (w : World) → OnOk result (IsDefinition (rules_in w (lookup table.old)) tokens.now made.old.done made.new.done) }
-    ensures keeps { (start : TheList ℕ → Option TheMacro) → Keeps start table.old made.old.done → OnOk result (Keeps start table.new made.new.done) }
+    ensures done { (w : World) → OnOk result (IsDefinition file (rules_in w (lookup table.old)) tokens.now made.old.done made.new.done) }
+    ensures keeps { (start : Start) → Keeps start table.old made.old.done → OnOk result (Keeps start table.new made.new.done) }
     ensures sees { OnOk result (Sees made.new) }
 {
-    let found = read_define(alloc, tokens, place_of(tokens))?;
+    let found = read_define(alloc, tokens, place_of(file, tokens))?;
     match found {
-        Some(mac) => give(alloc, table, made, tokens, mac),
-        None => invalid(&mut made.done.faults, tokens),
+        Some(mac) => give(alloc, file, table, made, tokens, mac),
+        None => invalid(&mut made.done.faults, file, tokens),
     }
 }
 
 /// Where the first of these tokens is written.
-fn place_of(tokens: &[Token]) -> Span
-    ensures { result ≡ place_of tokens.now }
+fn place_of(file: u32, tokens: &[Token]) -> Span
+    ensures { result ≡ place_of file tokens.now }
 {
     match tokens.split_first() {
-        Some((token, _)) => span_at(token.from, token.to),
-        None => span_at(0, 0),
+        Some((token, _)) => span_at(file, token.from, token.to),
+        None => span_at(file, 0, 0),
     }
 }
 
 /// Adds fault 18, at a definition's name.
-fn invalid(faults: &mut List<Diag>, tokens: &[Token]) -> Mem<()>
-    ensures { OnOk result (faults.new ≡ faults.old ++ invalid tokens.now) }
+fn invalid(faults: &mut List<Diag>, file: u32, tokens: &[Token]) -> Mem<()>
+    ensures { OnOk result (faults.new ≡ faults.old ++ invalid file tokens.now) }
 {
     faults.push(Diag {
         number: 18,
-        at: place_of(tokens),
+        at: place_of(file, tokens),
         name: None,
     })
 }
 
 /// Adds fault 16, at a definition's name.
-fn redefined(alloc: Global, faults: &mut List<Diag>, name: &Name, tokens: &[Token]) -> Mem<()>
-    ensures { OnOk result (faults.new ≡ faults.old ++ redefined name.now tokens.now) }
+fn redefined(alloc: Global, faults: &mut List<Diag>, file: u32, name: &Name, tokens: &[Token]) -> Mem<()>
+    ensures { OnOk result (faults.new ≡ faults.old ++ redefined file name.now tokens.now) }
 {
     let name = name.duplicate(alloc)?;
     faults.push(Diag {
         number: 16,
-        at: place_of(tokens),
+        at: place_of(file, tokens),
         name: Some(name),
     })
 }
@@ -92,34 +93,36 @@ fn redefined(alloc: Global, faults: &mut List<Diag>, name: &Name, tokens: &[Toke
 /// Gives the name its macro from here on.
 fn give(
     alloc: Global,
+    file: u32,
     table: &mut MacroTable,
     made: &mut Made,
     tokens: &[Token],
     mac: Macro,
 ) -> Mem<()>
     requires { Sees made.now }
-    ensures done { OnOk result (IsGiven (lookup table.old) tokens.now mac made.old.done made.new.done) }
-    ensures keeps { (start : TheList ℕ → Option TheMacro) → Keeps start table.old made.old.done → OnOk result (Keeps start table.new made.new.done) }
+    ensures done { OnOk result (IsGiven file (lookup table.old) tokens.now mac made.old.done made.new.done) }
+    ensures keeps { (start : Start) → Keeps start table.old made.old.done → OnOk result (Keeps start table.new made.new.done) }
     ensures sees { OnOk result (Sees made.new) }
 {
     let name = mac.name.duplicate(alloc)?;
     look(alloc, made, &name)?;
     let copy = mac.duplicate(alloc)?;
     let answer = table.define(alloc, &EmptyBase, mac)?;
-    tell_defined(alloc, made, answer, name, copy, tokens)?;
+    tell_defined(alloc, file, made, answer, name, copy, tokens)?;
     Ok(())
 }
 
 /// Adds the event of a definition whose name has been looked at, and its fault.
 fn tell_defined(
     alloc: Global,
+    file: u32,
     made: &mut Made,
     answer: Defined,
     name: Name,
     mac: Macro,
     tokens: &[Token],
 ) -> Mem<()>
-    ensures done { OnOk result (made.new.done ≡ defined_after answer name mac tokens.now made.old.done) }
+    ensures done { OnOk result (made.new.done ≡ defined_after file answer name mac tokens.now made.old.done) }
     ensures seen { OnOk result (made.new.seen ≡ made.old.seen) }
     ensures looked { OnOk result (made.new.done.looked ≡ made.old.done.looked) }
 {
@@ -127,7 +130,7 @@ fn tell_defined(
         Defined::New => add_event(&mut made.done.events, name, mac),
         Defined::Same => Ok(()),
         Defined::Replaced { .. } => {
-            redefined(alloc, &mut made.done.faults, &name, tokens)?;
+            redefined(alloc, &mut made.done.faults, file, &name, tokens)?;
             add_event(&mut made.done.events, name, mac)
         }
     }

@@ -11,14 +11,14 @@ use cl_macro::MacroTable;
 use std::alloc::Global;
 
 /// The tokens of a condition, where each `defined NAME` and `defined ( NAME )` is 1 or 0 (N1570 6.10.1p1).
-pub(crate) fn decided(alloc: Global, table: &MacroTable, tokens: &[Token]) -> Mem<List<PpToken>>
-    ensures { IfOk result (λ all. all ≡ decided (lookup table.now) tokens.now) }
+pub(crate) fn decided(alloc: Global, file: u32, table: &MacroTable, tokens: &[Token]) -> Mem<List<PpToken>>
+    ensures { IfOk result (λ all. all ≡ decided file (lookup table.now) tokens.now) }
 {
     let mut all = List::new(alloc);
     let mut rest = tokens;
     while let Some((token, after)) = rest.split_first() {
         let count = taken(token, after);
-        let token = replaced(alloc, table, token, count, after)?;
+        let token = replaced(alloc, file, table, token, count, after)?;
         all.push(token)?;
         let (_, left) = after.split_at(count);
         rest = left;
@@ -139,20 +139,21 @@ fn named_len(tokens: &[Token]) -> usize
 /// The token, or a number for it and those that belong to it.
 fn replaced(
     alloc: Global,
+    file: u32,
     table: &MacroTable,
     token: &Token,
     count: usize,
     rest: &[Token],
 ) -> Mem<PpToken>
     requires { count ≡ taken token.now rest.now }
-    ensures { IfOk result (λ it. it ≡ replaced (lookup table.now) token.now rest.now) }
+    ensures { IfOk result (λ it. it ≡ replaced file (lookup table.now) token.now rest.now) }
 {
     if count == 0 {
-        spread(alloc, token)
+        spread(alloc, file, token)
     } else {
         let name = name_of(alloc, rest)?;
         let holds = is_defined(alloc, table, &name)?;
-        number_for(alloc, holds, token, count, rest)
+        number_for(alloc, file, holds, token, count, rest)
     }
 }
 
@@ -170,13 +171,14 @@ fn digit(alloc: Global, holds: bool) -> Mem<Name>
 /// A number for the token and so many behind it.
 fn number_for(
     alloc: Global,
+    file: u32,
     holds: bool,
     token: &Token,
     count: usize,
     rest: &[Token],
 ) -> Mem<PpToken>
     requires { 0 < count }
-    ensures { IfOk result (λ it. it ≡ number_for holds token.now count rest.now) }
+    ensures { IfOk result (λ it. it ≡ number_for file holds token.now count rest.now) }
 {
     let text = digit(alloc, holds)?;
     Ok(PpToken {
@@ -184,7 +186,7 @@ fn number_for(
         text,
         space: token.space,
         spell: None,
-        at: span_at(token.from, end_after(token, count, rest)),
+        at: span_at(file, token.from, end_after(token, count, rest)),
     })
 }
 

@@ -1,20 +1,22 @@
 //! The directives that begin no branch (N1570 6.10).
 
-ghost use Rattle.std.specs.Prelude.{◌≡◌, ◌≤◌, ◌++◌, ℕ, List, Option, None, false, if◌then◌else◌, is_some, length, map, IfOk, OnOk};
-ghost use Rattle.cl_base.specs.declared.macros.Macro.{Macro as TheMacro};
+ghost use Rattle.std.specs.Prelude.{◌≡◌, ◌≤◌, ◌++◌, None, false, if◌then◌else◌, is_some, length, map, IfOk, OnOk};
 ghost use Rattle.cl_macro.specs.Levels.{Within as AreWithin};
 ghost use Rattle.cl_macro.specs.Words.{fresh};
-ghost use Rattle.cl_pp.specs.Acts.{Checks, Gives, checking, directive, named, undefined, undefining};
+ghost use Rattle.cl_pp.specs.declared.aim.Aim.TheVariants.{Nothing, Once};
+ghost use Rattle.cl_pp.specs.Acts.{Checks, Gives, checking, directive, is_once, named, plain, undefined, undefining};
 ghost use Rattle.cl_pp.specs.LineNumbers.{misfit};
 ghost use Rattle.cl_pp.specs.Lines.{bad_line, spread_line};
 ghost use Rattle.cl_pp.specs.Places.{Within};
 ghost use Rattle.cl_pp.specs.Preprocessing.{World, rules_in};
-ghost use Rattle.cl_pp.specs.Standing.{with_event};
-ghost use Rattle.cl_pp.specs.Taking.{IsChecked, Takes};
+ghost use Rattle.cl_pp.specs.Standing.{Start, with_event};
+ghost use Rattle.cl_pp.specs.Taking.{Comes, IsChecked, Takes};
 ghost use Rattle.cl_pp.specs.code.Keeping.{Keeps, Sees, Suits, lookup, number_of};
 
+use crate::aim::Aim;
 use crate::define::defining;
-use crate::line::{add, extra, included};
+use crate::include::include;
+use crate::line::{add, extra};
 use crate::line_number::misfit;
 use crate::looked::look;
 use crate::made::{File, Made, Reach};
@@ -25,29 +27,29 @@ use cl_define::is_reserved;
 use cl_macro::MacroTable;
 use std::alloc::Global;
 
-/// Goes over a directive.
+/// Goes over a directive, and answers what it aims at.
 pub(crate) fn directive(
     alloc: Global,
     file: &File,
     table: &mut MacroTable,
     made: &mut Made,
     line: &[Token],
-) -> Mem<()>
+) -> Mem<Aim>
     requires { Sees made.now }
-    ensures done { (w : World) → Suits file.now w → Within (length w.text) line.now → OnOk result (Takes (rules_in w (lookup table.old)) (number_of table.old) line.now (directive line.now made.old.done) false made.new.done) }
-    ensures keeps { (start : List ℕ → Option TheMacro) → Keeps start table.old made.old.done → OnOk result (Keeps start table.new made.new.done) }
+    ensures done { (w : World) → Suits file.now w → Within (length w.text) line.now → IfOk result (λ aim. Comes file.now.number (rules_in w (lookup table.old)) (number_of table.old) line.now (directive file.now.number line.now made.old.done) false aim made.new.done) }
+    ensures keeps { (start : Start) → Keeps start table.old made.old.done → OnOk result (Keeps start table.new made.new.done) }
     ensures sees { OnOk result (Sees made.new) }
 {
     let Some((_, rest)) = line.split_first() else {
-        return Ok(());
+        return Ok(Aim::Nothing);
     };
     match rest.split_first() {
         Some((name, rest)) => named(alloc, file, table, made, name, rest, line),
-        None => Ok(()),
+        None => Ok(Aim::Nothing),
     }
 }
 
-/// Goes over a directive of this name.
+/// Goes over a directive of this name, and answers what it aims at.
 fn named(
     alloc: Global,
     file: &File,
@@ -56,62 +58,100 @@ fn named(
     name: &Token,
     rest: &[Token],
     line: &[Token],
+) -> Mem<Aim>
+    requires { Sees made.now }
+    ensures done { (w : World) → Suits file.now w → Within (length w.text) rest.now → IfOk result (λ aim. Comes file.now.number (rules_in w (lookup table.old)) (number_of table.old) line.now (named file.now.number name.now rest.now made.old.done) false aim made.new.done) }
+    ensures keeps { (start : Start) → Keeps start table.old made.old.done → OnOk result (Keeps start table.new made.new.done) }
+    ensures sees { OnOk result (Sees made.new) }
+{
+    if name.is_word(b"include".as_slice()) {
+        include(alloc, file, table, made, rest, line)
+    } else if name.is_word(b"pragma".as_slice()) {
+        Ok(marking(rest))
+    } else {
+        plain(alloc, file, table, made, name, rest, line)?;
+        Ok(Aim::Nothing)
+    }
+}
+
+/// What a `#pragma` aims at.
+fn marking(rest: &[Token]) -> Aim
+    ensures { result ≡ (if is_once rest.now then Once else Nothing) }
+{
+    match rest.split_first() {
+        Some((token, _)) => {
+            if token.is_word(b"once".as_slice()) {
+                Aim::Once
+            } else {
+                Aim::Nothing
+            }
+        }
+        None => Aim::Nothing,
+    }
+}
+
+/// Goes over a directive of this name, which isn't `include` or `pragma`.
+fn plain(
+    alloc: Global,
+    file: &File,
+    table: &mut MacroTable,
+    made: &mut Made,
+    name: &Token,
+    rest: &[Token],
+    line: &[Token],
 ) -> Mem<()>
     requires { Sees made.now }
-    ensures done { (w : World) → Suits file.now w → Within (length w.text) rest.now → OnOk result (Takes (rules_in w (lookup table.old)) (number_of table.old) line.now (named name.now rest.now made.old.done) false made.new.done) }
-    ensures keeps { (start : List ℕ → Option TheMacro) → Keeps start table.old made.old.done → OnOk result (Keeps start table.new made.new.done) }
+    ensures done { (w : World) → Suits file.now w → Within (length w.text) rest.now → OnOk result (Takes file.now.number (rules_in w (lookup table.old)) (number_of table.old) line.now (plain file.now.number name.now rest.now made.old.done) false made.new.done) }
+    ensures keeps { (start : Start) → Keeps start table.old made.old.done → OnOk result (Keeps start table.new made.new.done) }
     ensures sees { OnOk result (Sees made.new) }
 {
     if name.is_word(b"define".as_slice()) {
-        defining(alloc, table, made, name, rest)
+        defining(alloc, file.number, table, made, name, rest)
     } else if name.is_word(b"undef".as_slice()) {
-        undefining(alloc, table, made, name, rest)
-    } else if name.is_word(b"include".as_slice()) {
-        included(&mut made.done.faults, rest)
+        undefining(alloc, file.number, table, made, name, rest)
     } else if name.is_word(b"line".as_slice()) {
         checking(alloc, file, table, made, rest, line)
     } else if name.is_word(b"error".as_slice()) {
-        add(&mut made.done.faults, 22, name)
-    } else if name.is_word(b"pragma".as_slice()) {
-        Ok(())
+        add(&mut made.done.faults, file.number, 22, name)
     } else {
-        add(&mut made.done.faults, 5, name)
+        add(&mut made.done.faults, file.number, 5, name)
     }
 }
 
 /// Goes over an `#undef`.
 fn undefining(
     alloc: Global,
+    file: u32,
     table: &mut MacroTable,
     made: &mut Made,
     name: &Token,
     rest: &[Token],
 ) -> Mem<()>
     requires { Sees made.now }
-    ensures done { OnOk result (made.new.done ≡ undefining name.now rest.now made.old.done) }
-    ensures keeps { (start : List ℕ → Option TheMacro) → Keeps start table.old made.old.done → OnOk result (Keeps start table.new made.new.done) }
+    ensures done { OnOk result (made.new.done ≡ undefining file name.now rest.now made.old.done) }
+    ensures keeps { (start : Start) → Keeps start table.old made.old.done → OnOk result (Keeps start table.new made.new.done) }
     ensures sees { OnOk result (Sees made.new) }
 {
     let Some((token, more)) = rest.split_first() else {
-        return add(&mut made.done.faults, 6, name);
+        return add(&mut made.done.faults, file, 6, name);
     };
     if !token.kind.is_ident() {
-        return add(&mut made.done.faults, 6, name);
+        return add(&mut made.done.faults, file, 6, name);
     }
-    undefined(alloc, table, made, token)?;
-    extra(&mut made.done.faults, more)?;
+    undefined(alloc, file, table, made, token)?;
+    extra(&mut made.done.faults, file, more)?;
     Ok(())
 }
 
 /// Takes the token's macro away, unless its name may not be undefined.
-fn undefined(alloc: Global, table: &mut MacroTable, made: &mut Made, token: &Token) -> Mem<()>
+fn undefined(alloc: Global, file: u32, table: &mut MacroTable, made: &mut Made, token: &Token) -> Mem<()>
     requires { Sees made.now }
-    ensures done { OnOk result (made.new.done ≡ undefined token.now made.old.done) }
-    ensures keeps { (start : List ℕ → Option TheMacro) → Keeps start table.old made.old.done → OnOk result (Keeps start table.new made.new.done) }
+    ensures done { OnOk result (made.new.done ≡ undefined file token.now made.old.done) }
+    ensures keeps { (start : Start) → Keeps start table.old made.old.done → OnOk result (Keeps start table.new made.new.done) }
     ensures sees { OnOk result (Sees made.new) }
 {
     if is_reserved(token.text.bytes()) {
-        add(&mut made.done.faults, 18, token)
+        add(&mut made.done.faults, file, 18, token)
     } else {
         undefine(alloc, table, made, &token.text)
     }
@@ -121,7 +161,7 @@ fn undefined(alloc: Global, table: &mut MacroTable, made: &mut Made, token: &Tok
 fn undefine(alloc: Global, table: &mut MacroTable, made: &mut Made, name: &Name) -> Mem<()>
     requires { Sees made.now }
     ensures done { OnOk result (made.new.done ≡ with_event name.now None made.old.done) }
-    ensures keeps { (start : List ℕ → Option TheMacro) → Keeps start table.old made.old.done → OnOk result (Keeps start table.new made.new.done) }
+    ensures keeps { (start : Start) → Keeps start table.old made.old.done → OnOk result (Keeps start table.new made.new.done) }
     ensures sees { OnOk result (Sees made.new) }
 {
     look(alloc, made, name)?;
@@ -141,11 +181,11 @@ fn checking(
     line: &[Token],
 ) -> Mem<()>
     requires { Sees made.now }
-    ensures done { (w : World) → Suits file.now w → Within (length w.text) rest.now → OnOk result (Takes (rules_in w (lookup table.now)) (number_of table.now) line.now (checking rest.now made.old.done) false made.new.done) }
+    ensures done { (w : World) → Suits file.now w → Within (length w.text) rest.now → OnOk result (Takes file.now.number (rules_in w (lookup table.now)) (number_of table.now) line.now (checking file.now.number rest.now made.old.done) false made.new.done) }
     ensures events { OnOk result (made.new.done.events ≡ made.old.done.events) }
     ensures sees { OnOk result (Sees made.new) }
 {
-    let tokens = spread_line(alloc, rest)?;
+    let tokens = spread_line(alloc, file.number, rest)?;
     let wrong = is_wrong(tokens.as_slice());
     checked_if(alloc, file, table, made, wrong, tokens.as_slice(), line)?;
     Ok(())
@@ -169,7 +209,7 @@ fn checked_if(
     line: &[Token],
 ) -> Mem<()>
     requires { Sees made.now }
-    ensures done { (w : World) → Suits file.now w → AreWithin w.text (map fresh tokens.now) → OnOk result (Takes (rules_in w (lookup table.now)) (number_of table.now) line.now (if wrong then Checks tokens.now made.old.done else Gives false made.old.done) false made.new.done) }
+    ensures done { (w : World) → Suits file.now w → AreWithin w.text (map fresh tokens.now) → OnOk result (Takes file.now.number (rules_in w (lookup table.now)) (number_of table.now) line.now (if wrong then Checks tokens.now made.old.done else Gives false made.old.done) false made.new.done) }
     ensures events { OnOk result (made.new.done.events ≡ made.old.done.events) }
     ensures sees { OnOk result (Sees made.new) }
 {
@@ -190,28 +230,29 @@ fn checked(
     line: &[Token],
 ) -> Mem<()>
     requires { Sees made.now }
-    ensures done { (w : World) → Suits file.now w → AreWithin w.text (map fresh tokens.now) → OnOk result (IsChecked (rules_in w (lookup table.now)) (number_of table.now) line.now tokens.now made.old.done made.new.done) }
+    ensures done { (w : World) → Suits file.now w → AreWithin w.text (map fresh tokens.now) → OnOk result (IsChecked file.now.number (rules_in w (lookup table.now)) (number_of table.now) line.now tokens.now made.old.done made.new.done) }
     ensures events { OnOk result (made.new.done.events ≡ made.old.done.events) }
     ensures sees { OnOk result (Sees made.new) }
 {
     let reach = Reach::Directive(made.done.tokens.len() as u32);
     let tokens = replaced(alloc, file, table, made, reach, tokens)?;
     let place = misfit(tokens.as_slice());
-    bad_line(&mut made.done.faults, place, tokens.as_slice(), line)?;
+    bad_line(&mut made.done.faults, file.number, place, tokens.as_slice(), line)?;
     Ok(())
 }
 
 /// Adds fault 23, if the operand of a `#line` is at fault.
 fn bad_line(
     faults: &mut List<Diag>,
+    file: u32,
     place: Option<usize>,
     made: &[PpToken],
     line: &[Token],
 ) -> Mem<()>
-    ensures { OnOk result (faults.new ≡ faults.old ++ bad_line place made.now line.now) }
+    ensures { OnOk result (faults.new ≡ faults.old ++ bad_line file place made.now line.now) }
 {
     match place {
-        Some(place) => fault_in(faults, 23, made, place, line),
+        Some(place) => fault_in(faults, file, 23, made, place, line),
         None => Ok(()),
     }
 }

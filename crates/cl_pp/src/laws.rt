@@ -1,28 +1,36 @@
 //! What holds of every text.
 
-ghost use Rattle.std.specs.Prelude.{◌≡◌, ◌&&◌, ℕ, Bool, List, ◌∷◌, ◌++◌};
+ghost use Rattle.std.specs.Prelude.{◌≡◌, ◌&&◌, ℕ, Bool, List, [], ◌∷◌, ◌++◌};
 ghost use Rattle.cl_base.specs.declared.config.Settings.{Settings};
 ghost use Rattle.cl_pp.specs.declared.done.PpDone.{PpDone};
 ghost use Rattle.cl_base.specs.declared.token.Token.{Token};
 ghost use Rattle.cl_cond.specs.declared.mark.Mark.{Mark};
 ghost use Rattle.cl_pp.specs.Activity.{Active, Passed, Question, says};
 ghost use Rattle.cl_pp.specs.Branching.{Arm, IsSection, IsWhole, behind, laid, none_held};
-ghost use Rattle.cl_pp.specs.Preprocessing.{Goes, Preprocesses, State, Through, World};
+ghost use Rattle.cl_base.specs.declared.headers.Known.{Known};
+ghost use Rattle.cl_pp.specs.declared.done.PpAnswer.{PpAnswer};
+ghost use Rattle.cl_pp.specs.Preprocessing.{Goes, Preprocesses, Reads, State, Through, World};
+ghost use Rattle.cl_pp.specs.Standing.{first_unknown, wanted};
 
-/// A text comes to one list of tokens under the same settings, with one list of each kind beside it.
+/// A text comes to one answer under the same settings, where the same is known of headers.
 pub fn one_preprocessing()
-    ensures { (config : Settings) (path text : List ℕ) (x y : PpDone) → Preprocesses config path text x → Preprocesses config path text y → x ≡ y }
+    ensures { (config : Settings) (known : List ℕ → Known) (path text : List ℕ) (x y : PpAnswer) → Preprocesses config known path text x → Preprocesses config known path text y → x ≡ y }
 {}
 
-/// Every text comes to something.
+/// Every text comes to an answer.
 pub fn some_preprocessing()
-    ensures { (config : Settings) (path text : List ℕ) → (done : PpDone) × Preprocesses config path text done }
+    ensures { (config : Settings) (known : List ℕ → Known) (path text : List ℕ) → (answer : PpAnswer) × Preprocesses config known path text answer }
 {}
 
-/// Going over lines and then others is going over both.
+/// Going over lines and then others is going over both, whatever files they enter.
 pub fn resumed()
     ensures splits { (w : World) (tokens : List Token) (lines more : List Mark) (s t : State) → Goes w tokens (lines ++ more) s t → Through w tokens lines more s t }
     ensures joins { (w : World) (tokens : List Token) (lines more : List Mark) (s t : State) → Through w tokens lines more s t → Goes w tokens (lines ++ more) s t }
+{}
+
+/// The header that was asked for last, if nothing is known of it, is the first such header.
+pub fn first_needed()
+    ensures { (w : World) (old new : PpDone) → old.deps ≡ [] → Reads w old new → first_unknown new.deps ≡ wanted new.deps }
 {}
 
 /// Of the branches of a section one is active at most: the first whose condition is fulfilled, where the section stands

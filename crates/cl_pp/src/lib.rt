@@ -3,23 +3,32 @@
 #![tactic(auto)]
 
 mod act;
+mod aim;
 mod branch;
 mod define;
 mod defined;
 mod directive;
 mod done;
 mod file;
+mod include;
 mod laws;
 mod line;
 mod line_number;
 mod looked;
 mod made;
+mod open;
+mod reach;
 mod replacing;
 mod run;
 mod section;
+mod start;
 mod stray;
 mod token;
+mod unit;
 
-pub use done::PpDone;
-pub use file::preprocess;
-pub use laws::{groups_change_nothing, one_branch, one_preprocessing, resumed, some_preprocessing};
+pub use done::{PpAnswer, PpDone};
+pub use laws::{
+    first_needed, groups_change_nothing, one_branch, one_preprocessing, resumed, some_preprocessing,
+};
+pub use start::PpState;
+pub use unit::preprocess;

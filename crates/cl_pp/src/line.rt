@@ -2,9 +2,9 @@
 
 ghost use Rattle.std.specs.Prelude.{◌≡◌, ◌++◌, OnOk};
 ghost use Rattle.cl_pp.specs.Acts.{nameless};
-ghost use Rattle.cl_pp.specs.Lines.{extra, fault_at, included, is_directive, is_unread, rest_of};
+ghost use Rattle.cl_pp.specs.Lines.{extra, fault_at, is_directive, is_unread, rest_of};
 
-use crate::token::{is_header, span_at};
+use crate::token::span_at;
 use cl_base::{Diag, List, Mem, Token};
 
 /// Whether a line is a directive: it begins with `#`.
@@ -31,51 +31,35 @@ pub(crate) fn rest_of(line: &[Token]) -> &[Token]
 }
 
 /// Adds a fault of a token.
-pub(crate) fn add(faults: &mut List<Diag>, number: u8, token: &Token) -> Mem<()>
-    ensures { OnOk result (faults.new ≡ faults.old ++ fault_at number token.now) }
+pub(crate) fn add(faults: &mut List<Diag>, file: u32, number: u8, token: &Token) -> Mem<()>
+    ensures { OnOk result (faults.new ≡ faults.old ++ fault_at file number token.now) }
 {
     faults.push(Diag {
         number,
-        at: span_at(token.from, token.to),
+        at: span_at(file, token.from, token.to),
         name: None,
     })
 }
 
 /// Adds fault 7, if there is a token behind a directive that is complete.
-pub(crate) fn extra(faults: &mut List<Diag>, rest: &[Token]) -> Mem<()>
-    ensures { OnOk result (faults.new ≡ faults.old ++ extra rest.now) }
+pub(crate) fn extra(faults: &mut List<Diag>, file: u32, rest: &[Token]) -> Mem<()>
+    ensures { OnOk result (faults.new ≡ faults.old ++ extra file rest.now) }
 {
     match rest.split_first() {
-        Some((token, _)) => add(faults, 7, token),
+        Some((token, _)) => add(faults, file, 7, token),
         None => Ok(()),
     }
 }
 
 /// Adds fault 6, at a directive's name.
-pub(crate) fn nameless(faults: &mut List<Diag>, line: &[Token]) -> Mem<()>
-    ensures { OnOk result (faults.new ≡ faults.old ++ nameless line.now) }
+pub(crate) fn nameless(faults: &mut List<Diag>, file: u32, line: &[Token]) -> Mem<()>
+    ensures { OnOk result (faults.new ≡ faults.old ++ nameless file line.now) }
 {
     let Some((_, rest)) = line.split_first() else {
         return Ok(());
     };
     match rest.split_first() {
-        Some((name, _)) => add(faults, 6, name),
-        None => Ok(()),
-    }
-}
-
-/// Adds the faults of `#include`.
-pub(crate) fn included(faults: &mut List<Diag>, rest: &[Token]) -> Mem<()>
-    ensures { OnOk result (faults.new ≡ faults.old ++ included rest.now) }
-{
-    match rest.split_first() {
-        Some((token, more)) => {
-            if is_header(token) {
-                extra(faults, more)
-            } else {
-                Ok(())
-            }
-        }
+        Some((name, _)) => add(faults, file, 6, name),
         None => Ok(()),
     }
 }

@@ -78,7 +78,7 @@ fn is_number(digits: &[u8]) -> bool
 }
 
 /// Whether it is a string literal without a prefix.
-fn is_plain_string(token: &PpToken) -> bool
+pub(crate) fn is_plain_string(token: &PpToken) -> bool
     ensures { result ≡ is_plain_string token.now }
 {
     is_string_kind(token.kind) && begins_plain(token.text.bytes())

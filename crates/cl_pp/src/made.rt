@@ -1,15 +1,43 @@
-//! What is known while a file is gone over.
+//! What is known while files are gone over.
 
 use crate::done::PpDone;
-use cl_base::{Fault, LineTable, Name, Path};
+use cl_base::{Fault, Lexed, LineTable, List, Name, Path, Text};
+use cl_cond::Mark;
 use std::collections::BTreeMap;
 
-/// The file: its path, its lines, and the faults of lexing by the bytes at which they begin.
+/// A file: its number, its path, its lines, and the faults of lexing by the bytes at which they begin.
 #[derive(Clone, Copy)]
 pub(crate) struct File<'a> {
+    pub(crate) number: u32,
     pub(crate) path: &'a Path,
     pub(crate) lines: &'a LineTable,
     pub(crate) told: &'a BTreeMap<u32, Fault>,
+}
+
+/// A file that is to be gone over: its number, how many include lines lead to it, its path and its text.
+#[derive(Clone, Copy)]
+pub(crate) struct Entry<'a> {
+    pub(crate) number: u32,
+    pub(crate) depth: u32,
+    pub(crate) path: &'a Path,
+    pub(crate) text: &'a [u8],
+}
+
+/// A header that was found and is to be entered.
+#[derive(Drop)]
+pub(crate) struct Found {
+    pub(crate) number: u32,
+    pub(crate) path: Path,
+    pub(crate) text: Text,
+}
+
+/// A file's tokens, the lines that they make, and what else lexing tells.
+#[derive(Drop)]
+pub(crate) struct Opened {
+    pub(crate) lexed: Lexed,
+    pub(crate) marks: List<Mark>,
+    pub(crate) lines: LineTable,
+    pub(crate) told: BTreeMap<u32, Fault>,
 }
 
 /// What is made so far. `seen` are the names of `done.looked`.

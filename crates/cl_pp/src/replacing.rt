@@ -67,12 +67,12 @@ pub(crate) fn replaced(
 }
 
 /// The tokens of a line.
-pub(crate) fn spread_line(alloc: Global, line: &[Token]) -> Mem<List<PpToken>>
-    ensures { IfOk result (λ tokens. tokens ≡ spread_line line.now) }
+pub(crate) fn spread_line(alloc: Global, file: u32, line: &[Token]) -> Mem<List<PpToken>>
+    ensures { IfOk result (λ tokens. tokens ≡ spread_line file line.now) }
 {
     let mut tokens = List::new(alloc);
     for token in line {
-        let token = spread(alloc, token)?;
+        let token = spread(alloc, file, token)?;
         tokens.push(token)?;
     }
     Ok(tokens)
@@ -110,11 +110,11 @@ pub(crate) fn run_line(
     line: &[Token],
 ) -> Mem<()>
     requires { Sees made.now }
-    ensures done { (w : World) → Suits file.now w → Within (length w.text) line.now → OnOk result (IsRun (rules_in w (lookup table.now)) (number_of table.now) (spread_line line.now) made.old.done made.new.done) }
+    ensures done { (w : World) → Suits file.now w → Within (length w.text) line.now → OnOk result (IsRun (rules_in w (lookup table.now)) (number_of table.now) (spread_line file.now.number line.now) made.old.done made.new.done) }
     ensures events { OnOk result (made.new.done.events ≡ made.old.done.events) }
     ensures sees { OnOk result (Sees made.new) }
 {
-    let run = spread_line(alloc, line)?;
+    let run = spread_line(alloc, file.number, line)?;
     let reach = Reach::Run(made.done.tokens.len() as u32);
     let tokens = replaced(alloc, file, table, made, reach, run.as_slice())?;
     append(alloc, &mut made.done.tokens, tokens)?;

@@ -14,15 +14,16 @@ use std::collections::BTreeMap;
 /// Adds the faults that lexing tells of a line's tokens, unless they aren't looked at.
 pub(crate) fn line_strays(
     faults: &mut List<Diag>,
+    file: u32,
     told: &BTreeMap<u32, Fault>,
     line: &[Token],
 ) -> Mem<()>
-    ensures { OnOk result (faults.new ≡ faults.old ++ line_strays (get nat_cmp told.now) line.now) }
+    ensures { OnOk result (faults.new ≡ faults.old ++ line_strays file (get nat_cmp told.now) line.now) }
 {
     if is_free_text(line) {
         Ok(())
     } else {
-        strays(faults, told, line)
+        strays(faults, file, told, line)
     }
 }
 
@@ -40,22 +41,22 @@ fn is_free_text(line: &[Token]) -> bool
 }
 
 /// Adds the faults of tokens.
-fn strays(faults: &mut List<Diag>, told: &BTreeMap<u32, Fault>, line: &[Token]) -> Mem<()>
-    ensures { OnOk result (faults.new ≡ faults.old ++ strays (get nat_cmp told.now) line.now) }
+fn strays(faults: &mut List<Diag>, file: u32, told: &BTreeMap<u32, Fault>, line: &[Token]) -> Mem<()>
+    ensures { OnOk result (faults.new ≡ faults.old ++ strays file (get nat_cmp told.now) line.now) }
 {
     for token in line {
-        stray(faults, told, token)?;
+        stray(faults, file, told, token)?;
     }
     Ok(())
 }
 
 /// Adds the fault of a token, if it has one.
-fn stray(faults: &mut List<Diag>, told: &BTreeMap<u32, Fault>, token: &Token) -> Mem<()>
-    ensures { OnOk result (faults.new ≡ faults.old ++ stray (get nat_cmp told.now) token.now.kind token.now) }
+fn stray(faults: &mut List<Diag>, file: u32, told: &BTreeMap<u32, Fault>, token: &Token) -> Mem<()>
+    ensures { OnOk result (faults.new ≡ faults.old ++ stray file (get nat_cmp told.now) token.now.kind token.now) }
 {
     match token.kind {
         Kind::Other => match told.get(&token.from) {
-            Some(fault) => faults.push(diag(fault)),
+            Some(fault) => faults.push(diag(file, fault)),
             None => Ok(()),
         },
         _ => Ok(()),

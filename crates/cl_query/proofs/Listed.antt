@@ -6,11 +6,9 @@ use Rattle.cl_parse.specs.declared.item.Item.{Item}
 use Rattle.cl_parse.specs.declared.item.Item.TheVariants.{Proper, Bad}
 use Rattle.cl_parse.specs.Items.{ItemTiles, ItemsOf}
 use Rattle.cl_parse.specs.Tokens.{span_at}
-use Rattle.cl_pp.specs.Places.{InOrder, nowhere}
-use Rattle.cl_query.proofs.Places.{ahead_of}
 use Rattle.cl_query.specs.declared.symbols.Walk.{Walk}
-use Rattle.cl_query.specs.Walking.{Ahead, IsAt}
-use Rattle.cl_query.specs.Symbols.{symbol_at, symbols_in}
+use Rattle.cl_query.specs.Walking.{AreAhead}
+use Rattle.cl_query.specs.Symbols.{symbols_for, symbols_in}
 
 -- the item at a number, and those behind it
 next_item : (items : List Item) (n : ℕ) (d x : Item) → n < length items → get_or items n d ≡ x → drop n items ≡ x ∷ drop (n + 1) items
@@ -26,12 +24,12 @@ pub listed_bad : (text : List ℕ) (tokens : List PpToken) (items : List Item) (
 listed_bad text tokens items n d symbols from to k l e =
     ap (λ (left : List Item). symbols ++ symbols_in text tokens left) (sym (next_item items n d (Bad from to) l e)) ∙ k
 
-pub listed_proper : (text : List ℕ) (tokens : List PpToken) (items : List Item) (n : ℕ) (d : Item) (symbols : List Symbol) (from to : ℕ) (symbol : Symbol)
-    → Listed text tokens items n symbols → n < length items → get_or items n d ≡ Proper from to → symbol ≡ symbol_at text tokens from
-    → Listed text tokens items (n + 1) (symbols ++ symbol ∷ [])
-listed_proper text tokens items n d symbols from to symbol k l e is =
-    append_assoc symbols (symbol ∷ []) (symbols_in text tokens (drop (n + 1) items))
-    ∙ ap (λ (s : Symbol). symbols ++ s ∷ symbols_in text tokens (drop (n + 1) items)) is
+pub listed_proper : (text : List ℕ) (tokens : List PpToken) (items : List Item) (n : ℕ) (d : Item) (symbols new : List Symbol) (from to : ℕ)
+    → Listed text tokens items n symbols → n < length items → get_or items n d ≡ Proper from to → new ≡ symbols ++ symbols_for text tokens from
+    → Listed text tokens items (n + 1) new
+listed_proper text tokens items n d symbols new from to k l e is =
+    ap (λ (ss : List Symbol). ss ++ symbols_in text tokens (drop (n + 1) items)) is
+    ∙ append_assoc symbols (symbols_for text tokens from) (symbols_in text tokens (drop (n + 1) items))
     ∙ ap (λ (left : List Item). symbols ++ symbols_in text tokens left) (sym (next_item items n d (Proper from to) l e)) ∙ k
 
 -- ---- where the items left begin
@@ -40,15 +38,15 @@ listed_proper text tokens items n d symbols from to symbol k l e is =
 pub record Tiled (tokens : List PpToken) (items : List Item) (n : ℕ) (walk : Walk) : Type 0 where
   pub at : ℕ
   pub tiles : ItemTiles tokens at (drop n items)
-  pub passed : (j : ℕ) → at ≤ j → j < length tokens → Ahead walk (span_at tokens j)
+  pub passed : AreAhead tokens at walk
 
 pub tiled_first : (tokens : List PpToken) (items : List Item) (walk : Walk) → ItemsOf tokens items → walk.end.offset ≡ 0 → Tiled tokens items 0 walk
-tiled_first tokens items walk h e = record { at = 0; tiles = h; passed = λ j l m. inr (omega (arith, e)) }
+tiled_first tokens items walk h e = record { at = 0; tiles = h; passed = λ j l m o. inr (omega (arith, e)) }
 
 -- a declaration that is next begins with the token there, and has three
 pub record Next (tokens : List PpToken) (items : List Item) (n : ℕ) (walk : Walk) (from : ℕ) : Type 0 where
   pub room : from + 2 < length tokens
-  pub ahead : Ahead walk (span_at tokens from)
+  pub ahead : AreAhead tokens from walk
   pub rest : ItemTiles tokens (from + 3) (drop (n + 1) items)
 
 tiles_end : (tokens : List PpToken) (at : ℕ) (items : List Item) → ItemTiles tokens at items → at ≤ length tokens
@@ -62,14 +60,13 @@ next_proper tokens items n walk d from to t l e =
     let ends : to ≡ from + 3 = omega (arith, tiles.1.0, tiles.1.1) in
     let rest : ItemTiles tokens (from + 3) (drop (n + 1) items) = subst (λ (k : ℕ). ItemTiles tokens k (drop (n + 1) items)) ends tiles.2 in
     let most = tiles_end tokens (from + 3) (drop (n + 1) items) rest in
-    record { room = omega arith; ahead = t.passed from (omega arith) (omega arith); rest = rest }
+    record { room = omega arith; ahead = λ j m n o. t.passed j (omega arith) n o; rest = rest }
 
-pub tiled_proper : (tokens : List PpToken) (items : List Item) (n end : ℕ) (walk last : Walk) (from : ℕ) → InOrder nowhere end tokens → Next tokens items n walk from → IsAt last (span_at tokens (from + 2)) → Tiled tokens items (n + 1) last
-tiled_proper tokens items n end walk last from o h e =
-    record { at = from + 3; tiles = h.rest; passed = λ j l m. ahead_of tokens end (from + 2) j last o (omega arith) m e }
+pub tiled_proper : (tokens : List PpToken) (items : List Item) (n : ℕ) (walk last : Walk) (from : ℕ) → Next tokens items n walk from → AreAhead tokens (from + 3) last → Tiled tokens items (n + 1) last
+tiled_proper tokens items n walk last from h a = record { at = from + 3; tiles = h.rest; passed = a }
 
 pub tiled_bad : (tokens : List PpToken) (items : List Item) (n : ℕ) (walk : Walk) (d : Item) (from to : ℕ) → Tiled tokens items n walk → n < length items → get_or items n d ≡ Bad from to → Tiled tokens items (n + 1) walk
 tiled_bad tokens items n walk d from to t l e =
     let tiles : ItemTiles tokens t.at (Bad from to ∷ drop (n + 1) items) = subst (ItemTiles tokens t.at) (next_item items n d (Bad from to) l e) t.tiles in
     let more : t.at < to = tiles.1.1.some in
-    record { at = to; tiles = tiles.2; passed = λ j k m. t.passed j (omega arith) m }
+    record { at = to; tiles = tiles.2; passed = λ j k m o. t.passed j (omega arith) m o }

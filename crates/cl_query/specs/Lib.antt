@@ -5,3 +5,4 @@ pub mod Unknowns
 pub mod Seen
 pub mod Over
 pub mod Worked
+pub mod Finding

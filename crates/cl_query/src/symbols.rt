@@ -1,11 +1,11 @@
 //! The symbols of a text.
 
-ghost use Rattle.std.specs.Prelude.{◌≡◌, ◌<◌, ◌≤◌, ◌+◌, ◌^◌, length, IfOk};
+ghost use Rattle.std.specs.Prelude.{◌≡◌, ◌<◌, ◌≤◌, ◌+◌, ◌^◌, ◌++◌, length, IfOk, OnOk};
 ghost use Rattle.cl_parse.specs.Tokens.{span_at};
 ghost use Rattle.cl_parse.specs.Items.{ItemsOf};
-ghost use Rattle.cl_pp.specs.Places.{InOrder, nowhere};
-ghost use Rattle.cl_query.specs.Symbols.{symbol_at, symbols_in};
-ghost use Rattle.cl_query.specs.Walking.{Ahead, IsAt, Stands};
+ghost use Rattle.cl_pp.specs.Places.{InOrder, in_document, nowhere};
+ghost use Rattle.cl_query.specs.Symbols.{name_at, own_or, symbol_at, symbols_for, symbols_in};
+ghost use Rattle.cl_query.specs.Walking.{Ahead, AreAhead, IsAt, Stands};
 
 use cl_base::{Cursor, List, Mem, PpToken, Range, Span, Symbol, Text};
 use cl_parse::{Item, span_at, text_at};
@@ -39,6 +39,13 @@ fn walked(walk: Walk, text: &[u8], span: Span) -> Walk
     Walk { start, end }
 }
 
+/// The place of a token, if it stands in the document, and else that of the name.
+fn own_or(name: Span, at: Span) -> Span
+    ensures { result ≡ own_or name at }
+{
+    if at.file == 0 { at } else { name }
+}
+
 /// The symbols of a text of these tokens and items, in order. The text is read once, and again only what a macro invocation
 /// takes, once for each of its ends.
 pub(crate) fn symbols(
@@ -47,7 +54,7 @@ pub(crate) fn symbols(
     tokens: &[PpToken],
     items: &[Item],
 ) -> Mem<List<Symbol>>
-    requires order { InOrder nowhere (length text.now) tokens.now }
+    requires order { InOrder nowhere (length text.now) (in_document tokens.now) }
     requires items { ItemsOf tokens.now items.now }
     requires room { length text.now < 2 ^ 32 }
     ensures { IfOk result (λ symbols. symbols ≡ symbols_in text.now tokens.now items.now) }
@@ -59,12 +66,39 @@ pub(crate) fn symbols(
     };
     for item in items {
         if let Item::Proper(from, _) = item {
-            let (symbol, last) = symbol(alloc, text, tokens, walk, *from as usize)?;
-            symbols.push(symbol)?;
-            walk = last;
+            walk = add_symbol(alloc, &mut symbols, text, tokens, walk, *from as usize)?;
         }
     }
     Ok(symbols)
+}
+
+/// Adds the symbol of the declaration that begins with this token, if its name stands in the document, and answers the
+/// walk at its last token there.
+fn add_symbol(
+    alloc: Global,
+    symbols: &mut List<Symbol>,
+    text: &[u8],
+    tokens: &[PpToken],
+    walk: Walk,
+    at: usize,
+) -> Mem<Walk>
+    requires order { InOrder nowhere (length text.now) (in_document tokens.now) }
+    requires room { length text.now < 2 ^ 32 }
+    requires small { at < 2 ^ 32 }
+    requires tokens { at + 2 < length tokens.now }
+    requires stands { Stands text.now walk }
+    requires ahead { AreAhead tokens.now at walk }
+    ensures symbols { OnOk result (symbols.new ≡ symbols.old ++ symbols_for text.now tokens.now at) }
+    ensures stands { IfOk result (λ last. Stands text.now last) }
+    ensures ahead { IfOk result (λ last. AreAhead tokens.now (at + 3) last) }
+{
+    let name = span_at(tokens, at + 1);
+    if name.file != 0 {
+        return Ok(walk);
+    }
+    let (symbol, last) = symbol(alloc, text, tokens, walk, at)?;
+    symbols.push(symbol)?;
+    Ok(last)
 }
 
 /// The symbol of the declaration that begins with this token, and the walk at the place of its last one.
@@ -75,19 +109,21 @@ fn symbol(
     walk: Walk,
     at: usize,
 ) -> Mem<(Symbol, Walk)>
-    requires order { InOrder nowhere (length text.now) tokens.now }
+    requires order { InOrder nowhere (length text.now) (in_document tokens.now) }
     requires room { length text.now < 2 ^ 32 }
     requires small { at < 2 ^ 32 }
     requires tokens { at + 2 < length tokens.now }
+    requires own { (name_at tokens.now at).file ≡ 0 }
     requires stands { Stands text.now walk }
-    requires ahead { Ahead walk (span_at tokens.now at) }
+    requires ahead { AreAhead tokens.now at walk }
     ensures symbol { IfOk result (λ pair. pair.0 ≡ symbol_at text.now tokens.now at) }
-    ensures at { IfOk result (λ pair. IsAt pair.1 (span_at tokens.now (at + 2))) }
+    ensures ahead { IfOk result (λ pair. AreAhead tokens.now (at + 3) pair.1) }
     ensures stands { IfOk result (λ pair. Stands text.now pair.1) }
 {
-    let first = walked(walk, text, span_at(tokens, at));
-    let second = walked(first, text, span_at(tokens, at + 1));
-    let last = walked(second, text, span_at(tokens, at + 2));
+    let place = span_at(tokens, at + 1);
+    let first = walked(walk, text, own_or(place, span_at(tokens, at)));
+    let second = walked(first, text, place);
+    let last = walked(second, text, own_or(place, span_at(tokens, at + 2)));
     let name = Text::new(alloc, text_at(tokens, at + 1))?;
     let symbol = Symbol {
         kind: VARIABLE,

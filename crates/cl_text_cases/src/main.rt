@@ -6,6 +6,7 @@ mod conditions;
 mod definitions;
 mod escape;
 mod faults;
+mod includes;
 mod macros;
 mod sections;
 mod table;

@@ -3,7 +3,7 @@
 //! them.
 
 use crate::escape::{escaped, unescaped};
-use crate::{conditions, definitions, faults, macros, sections, texts, tokens};
+use crate::{conditions, definitions, faults, includes, macros, sections, texts, tokens};
 use cl_base::{Mem, Memory};
 use cl_macro::MacroTable;
 use std::alloc::Global;
@@ -36,6 +36,8 @@ enum Section {
     Texts,
     /// Texts, with their macro events, uses and names looked up.
     Noted,
+    /// Headers and a text, with its tokens and faults after phase 4, and the headers that were asked for.
+    Includes,
     /// Numbers of diagnostics and names, with what is said and how severe it is.
     Diagnostics,
     /// A text of several lines up to a line `=>`, with its tokens after phase 4.
@@ -96,7 +98,11 @@ impl Table {
         let text = unescaped(alloc, given)?;
         let first = unescaped(alloc, first)?;
         let second = unescaped(alloc, second)?;
-        let found = self.found(alloc, text.as_slice(), first.as_slice(), second.as_slice())?;
+        let found = if let Section::Includes = self.section {
+            includes::tokens_and_asked(alloc, given)?
+        } else {
+            self.found(alloc, text.as_slice(), first.as_slice(), second.as_slice())?
+        };
         let found = escaped(alloc, found.as_slice())?;
         let shown = format!(in alloc; "{given} => {found}\n")?;
         Ok(shown)
@@ -118,7 +124,7 @@ impl Table {
             Section::Texts => texts::tokens_and_faults(alloc, text),
             Section::Noted => texts::noted(alloc, text),
             Section::Diagnostics => faults::said(alloc, first, second),
-            Section::Whole => Err(Memory),
+            Section::Includes | Section::Whole => Err(Memory),
         }
     }
 
@@ -162,6 +168,7 @@ fn section_of(name: &str) -> Section {
         "[started]" => Section::Started,
         "[texts]" => Section::Texts,
         "[noted]" => Section::Noted,
+        "[includes]" => Section::Includes,
         "[diagnostics]" => Section::Diagnostics,
         "[whole]" => Section::Whole,
         _ => Section::Tokens,

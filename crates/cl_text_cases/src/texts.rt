@@ -1,7 +1,8 @@
 //! Whole texts after phase 4.
 
-use cl_base::{Config, List, Mem, Path};
-use cl_pp::{PpDone, preprocess};
+use cl_base::{Config, EmptyBase, List, Mem, Memory, Path};
+use cl_headers::{HeaderMap, MapView};
+use cl_pp::{PpAnswer, PpDone, PpState, preprocess};
 use std::alloc::Global;
 
 /// The tokens of a text with their places, and its faults with theirs.
@@ -59,6 +60,11 @@ pub(crate) fn tokens(alloc: Global, text: &[u8]) -> Mem<Vec<u8>> {
 fn done_of(alloc: Global, text: &[u8]) -> Mem<PpDone> {
     let path = Path::new(alloc, "/a.c")?;
     let config = Config::new(alloc, List::new(alloc), List::new(alloc))?;
-    let done = preprocess(alloc, &path, text, &config)?;
-    Ok(done)
+    let headers = HeaderMap::new(alloc)?;
+    let mut view = MapView::new(alloc, &headers);
+    let start = PpState::start(alloc, &config)?;
+    match preprocess(alloc, start, &EmptyBase, &path, text, &config, &mut view)? {
+        PpAnswer::Done(done) => Ok(done),
+        PpAnswer::Need(_) => Err(Memory),
+    }
 }

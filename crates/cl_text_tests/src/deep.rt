@@ -1,9 +1,10 @@
 //! Sections and parentheses as deep as the text is long: no stack is.
 
-use cl_base::{Config, List, Mem, Path};
+use cl_base::{Config, Duplicate, EmptyBase, Known, List, Mem, Memory, Path, Text};
 use cl_cond::groups;
+use cl_headers::{HeaderMap, MapView};
 use cl_lex::lex;
-use cl_pp::{PpDone, preprocess};
+use cl_pp::{PpAnswer, PpDone, PpState, preprocess};
 use std::alloc::Global;
 use std::test::Fail;
 
@@ -20,11 +21,19 @@ fn around(alloc: Global, count: u32, before: &str, within: &str, behind: &str) -
     Ok(text)
 }
 
+/// What a text comes to that may include itself.
 fn done_of(alloc: Global, text: &[u8]) -> Mem<PpDone> {
     let path = Path::new(alloc, "/a.c")?;
     let config = Config::new(alloc, List::new(alloc), List::new(alloc))?;
-    let done = preprocess(alloc, &path, text, &config)?;
-    Ok(done)
+    let mut headers = HeaderMap::new(alloc)?;
+    let known = Known::Found(Text::new(alloc, text)?);
+    headers.put(alloc, path.duplicate(alloc)?, known)?;
+    let mut view = MapView::new(alloc, &headers);
+    let start = PpState::start(alloc, &config)?;
+    match preprocess(alloc, start, &EmptyBase, &path, text, &config, &mut view)? {
+        PpAnswer::Done(done) => Ok(done),
+        PpAnswer::Need(_) => Err(Memory),
+    }
 }
 
 /// How many tokens and faults a text has after phase 4.
@@ -59,6 +68,11 @@ fn deep_sections_and_parentheses(rt: HostRuntime) -> Result<(), Fail> {
     assert!(rt;
         counts(alloc, text.as_slice())?.1 == 2,
         "nothing stands in them"
+    );
+    let text = b"#include \"a.c\"\nx\n".as_slice();
+    assert!(rt;
+        counts(alloc, text)? == (201, 1),
+        "200 files, and the line that would lead deeper"
     );
     Ok(())
 }

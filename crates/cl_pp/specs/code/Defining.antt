@@ -12,7 +12,7 @@ use Rattle.cl_pp.specs.Standing.{with_faults, with_set}
 abbrev pub event_of : List ℕ → Macro → MacroEvent
 event_of name mac = record { name = name; set = Some mac }
 
-abbrev pub defined_after : Defined → List ℕ → Macro → List Token → PpDone → PpDone
-defined_after defined.New name mac tokens done = with_set name (Some mac) done
-defined_after defined.Same name mac tokens done = done
-defined_after (defined.Replaced place) name mac tokens done = with_faults (redefined name tokens) (with_set name (Some mac) done)
+abbrev pub defined_after : ℕ → Defined → List ℕ → Macro → List Token → PpDone → PpDone
+defined_after file defined.New name mac tokens done = with_set name (Some mac) done
+defined_after file defined.Same name mac tokens done = done
+defined_after file (defined.Replaced place) name mac tokens done = with_faults (redefined file name tokens) (with_set name (Some mac) done)

@@ -1,25 +1,20 @@
 -- How the code goes over lines.
-use Rattle.std.specs.Prelude.{◌≡◌, Bool, List, []}
+use Rattle.std.specs.Prelude.{◌≡◌, Bool, List}
 use Rattle.std.specs.Ordering.{nat_cmp}
 use Rattle.std.specs.BTreeMap.{get}
+use Rattle.cl_pp.specs.declared.aim.Aim.{Aim}
 use Rattle.cl_pp.specs.declared.done.PpDone.{PpDone}
 use Rattle.cl_base.specs.declared.token.Token.{Token}
 use Rattle.cl_cond.specs.declared.mark.Mark.{Mark}
 use Rattle.cl_pp.specs.Activity.{Question}
 use Rattle.cl_pp.specs.Acts.{act}
-use Rattle.cl_pp.specs.Preprocessing.{Goes, State, World, rules_in}
-use Rattle.cl_pp.specs.Taking as taking
+use Rattle.cl_pp.specs.Preprocessing.{World, rules_in}
+use Rattle.cl_pp.specs.Taking.{Comes}
 use Rattle.cl_pp.specs.code.Keeping.{lookup, number_of}
 use Rattle.cl_pp.specs.declared.made.File.{File}
 use Rattle.cl_macro.specs.declared.table.MacroTable.{MacroTable}
 
 -- what a line comes to by the macros that are kept
-abbrev pub Takes : File → World → MacroTable → (Question → Bool) → Mark → List Token → PpDone → Bool → PpDone → Type 0
-Takes file w table answer mark line old held new =
-    taking.Takes (rules_in w (lookup table)) (number_of table) line (act (get nat_cmp file.told.now) (lookup table) mark.part answer line old) held new
-
--- from the first line on they are gone over
-pub record GoesOver (w : World) (tokens : List Token) (marks : List Mark) (old new : PpDone) : Type 0 where
-  pub last : State
-  pub goes : Goes w tokens marks (record { past = []; done = old }) last
-  pub is : new ≡ last.done
+abbrev pub ComesBy : File → World → MacroTable → (Question → Bool) → Mark → List Token → PpDone → Bool → Aim → PpDone → Type 0
+ComesBy file w table answer mark line old held aim new =
+    Comes file.number (rules_in w (lookup table)) (number_of table) line (act file.number (get nat_cmp file.told.now) (lookup table) mark.part answer line old) held aim new

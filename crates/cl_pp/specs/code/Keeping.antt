@@ -16,7 +16,7 @@ use Rattle.cl_macro.specs.Rules.{Rules, TellsTokens}
 use Rattle.cl_macro.specs.Table.{event_of, macro_of}
 use Rattle.cl_pp.specs.Names.{contains}
 use Rattle.cl_pp.specs.Preprocessing.{World}
-use Rattle.cl_pp.specs.Standing.{macro_at, number_at, with_replaced}
+use Rattle.cl_pp.specs.Standing.{Start, macro_at, number_at, with_replaced}
 use Rattle.cl_pp.specs.declared.made.File.{File}
 use Rattle.cl_pp.specs.declared.made.Made.{Made}
 use Rattle.cl_pp.specs.declared.made.Reach.{Reach}
@@ -34,13 +34,14 @@ abbrev pub Sees : Made → Type 0
 Sees made = (name : List ℕ) → is_some (get (slice_cmp nat_cmp) made.seen name) ≡ contains made.done.looked name
 
 -- the macros are those of the events
-pub record Keeps (start : List ℕ → Option Macro) (table : MacroTable) (done : PpDone) : Type 0 where
+pub record Keeps (start : Start) (table : MacroTable) (done : PpDone) : Type 0 where
   pub macros_are : (name : List ℕ) → lookup table name ≡ macro_at start done name
-  pub numbers_are : (name : List ℕ) → number_of table name ≡ number_at done name
-  pub count : table.events ≡ length done.events
+  pub numbers_are : (name : List ℕ) → number_of table name ≡ number_at start done name
+  pub count : table.events ≡ start.events + length done.events
 
 -- the file is this one
 pub record Suits (file : File) (w : World) : Type 0 where
+  pub number : file.number ≡ w.file
   pub path : file.path.now ≡ w.path
   pub lines : IsTableOf file.lines.now w.text
   pub begins : (at : ℕ) → get nat_cmp file.told.now at ≡ w.begins at

@@ -6,5 +6,5 @@ use Rattle.cl_pp.proofs.define.defining.Goals as goal
 
 pub returns-clause-done : goal.returns-clause-done
 returns-clause-done c = λ w line.
-    defines_by (rules_in w (lookup c.args.table.now)) (number_of c.args.table.now) line c.args.name.now c.in-Some.token.now c.args.rest.now _ c.args.made.now.done _
+    defines_by c.args.file (rules_in w (lookup c.args.table.now)) (number_of c.args.table.now) line c.args.name.now c.in-Some.token.now c.args.rest.now _ c.args.made.now.done _
     c.in-Some.ensures.cases.0 (search rules) (c.in_ok-define.ensures.done w)

@@ -5,4 +5,4 @@ use Rattle.cl_pp.specs.Lines.{strays}
 use Rattle.cl_pp.proofs.stray.strays.Given as goal
 
 abbrev pub invariant-loop-token : goal.invariant-loop-token
-invariant-loop-token l = l.fn.faults ++ strays (get nat_cmp l.told) l.line ≡ l.faults ++ strays (get nat_cmp l.told) (drop l.token-index l.line)
+invariant-loop-token l = l.fn.faults ++ strays l.file (get nat_cmp l.told) l.line ≡ l.faults ++ strays l.file (get nat_cmp l.told) (drop l.token-index l.line)

@@ -1,6 +1,0 @@
-use Rattle.std.proofs.Common.{◌≡◌, ◌++◌, take, map}
-use Rattle.cl_pp.specs.Lines.{spread_fault}
-use Rattle.cl_pp.proofs.file.add_all.Given as goal
-
-abbrev pub invariant-loop-fault : goal.invariant-loop-fault
-invariant-loop-fault l = l.all ≡ l.fn.all ++ map spread_fault (take l.fault-index l.faults)

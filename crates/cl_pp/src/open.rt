@@ -1,0 +1,73 @@
+//! A file before its first line is gone over.
+
+ghost use Rattle.std.specs.Prelude.{◌≡◌, ◌++◌, map, OnOk, IfOk};
+ghost use Rattle.cl_pp.specs.Lines.{spread_fault};
+ghost use Rattle.cl_pp.specs.Preprocessing.{open_comments};
+ghost use Rattle.cl_pp.specs.code.Reaching.{IsOpened};
+
+use crate::made::{Entry, Made, Opened};
+use crate::run::runs;
+use crate::stray::told;
+use crate::token::diag;
+use cl_base::{Diag, Fault, LineTable, List, Mem};
+use cl_cond::groups;
+use cl_lex::lex;
+use std::alloc::Global;
+
+/// The tokens of a file and its lines. The faults that stand before its first line are added.
+pub(crate) fn open(alloc: Global, entry: &Entry, made: &mut Made) -> Mem<Opened>
+    ensures done { IfOk result (λ opened. IsOpened entry.now.number entry.now.text.now made.old.done opened made.new.done) }
+    ensures events { OnOk result (made.new.done.events ≡ made.old.done.events) }
+    ensures deps { OnOk result (made.new.done.deps ≡ made.old.done.deps) }
+    ensures looked { OnOk result (made.new.done.looked ≡ made.old.done.looked) }
+    ensures seen { OnOk result (made.new.seen ≡ made.old.seen) }
+{
+    let lexed = lex(alloc, entry.text)?;
+    let lines = LineTable::new(alloc, entry.text)?;
+    let groups = groups(alloc, lexed.tokens.as_slice())?;
+    let told = told(alloc, lexed.faults.as_slice())?;
+    let marks = runs(alloc, lexed.tokens.as_slice(), groups.marks.as_slice())?;
+    first_faults(
+        &mut made.done.faults,
+        entry.number,
+        lexed.faults.as_slice(),
+        groups.faults.as_slice(),
+    )?;
+    Ok(Opened {
+        lexed,
+        marks,
+        lines,
+        told,
+    })
+}
+
+/// Adds the faults that stand before the first line of a file.
+fn first_faults(all: &mut List<Diag>, file: u32, lexed: &[Fault], groups: &[Fault]) -> Mem<()>
+    ensures { OnOk result (all.new ≡ all.old ++ (open_comments file lexed.now ++ map (spread_fault file) groups.now)) }
+{
+    open_comments(all, file, lexed)?;
+    add_all(all, file, groups)?;
+    Ok(())
+}
+
+/// Adds the faults of comments without an end.
+fn open_comments(all: &mut List<Diag>, file: u32, faults: &[Fault]) -> Mem<()>
+    ensures { OnOk result (all.new ≡ all.old ++ open_comments file faults.now) }
+{
+    for fault in faults {
+        if fault.number == 1 {
+            all.push(diag(file, fault))?;
+        }
+    }
+    Ok(())
+}
+
+/// Adds these faults.
+fn add_all(all: &mut List<Diag>, file: u32, faults: &[Fault]) -> Mem<()>
+    ensures { OnOk result (all.new ≡ all.old ++ map (spread_fault file) faults.now) }
+{
+    for fault in faults {
+        all.push(diag(file, fault))?;
+    }
+    Ok(())
+}
