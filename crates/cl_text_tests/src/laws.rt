@@ -5,7 +5,9 @@ use cl_define::{one_definition, some_definition};
 use cl_diag::{one_order, some_order};
 use cl_lex::{one_lexing, some_lexing};
 use cl_macro::{one_start, some_start};
-use cl_pp::{groups_change_nothing, one_branch, one_preprocessing, resumed, some_preprocessing};
+use cl_pp::{
+    first_needed, groups_change_nothing, one_branch, one_preprocessing, resumed, some_preprocessing,
+};
 use std::test::Fail;
 
 #[test]
@@ -22,6 +24,7 @@ fn laws(_rt: HostRuntime) -> Result<(), Fail> {
     one_preprocessing();
     some_preprocessing();
     resumed();
+    first_needed();
     one_order();
     some_order();
     Ok(())
