@@ -1,6 +1,6 @@
 -- A session that goes on from frame to frame, and its ends.
 use Rattle.std.proofs.Common.{◌≡◌, ◌⊎◌, ℕ, ◌+◌, ◌<◌, ◌≤◌, ◌^◌, List, [], ◌∷◌, ◌++◌, length, take, drop, Bool, true, false, refl, zero, suc, sym, ap, subst, ◌∙◌, append_assoc, append-nil, length-append, arith, inl, inr}
-use Rattle.std.specs.Prelude.{Option, Some, Result, Ok, Err, reverse, slice_get, IsTrue, if◌then◌else◌}
+use Rattle.std.specs.Prelude.{Option, Some, Result, Ok, Err, reverse, slice_get, IsTrue}
 use Rattle.std.proofs.lemmas.List.{take-append-drop, length-take-le}
 use Rattle.cl_frames.specs.Frames.{EndsWithin, ReadsFrame, whole, wrong, cut, first, window}
 use Rattle.cl_frames.specs.Sessions.{IsFront, SplitsInto, EndsAs, edge, bad, long, after_last}
@@ -15,18 +15,16 @@ use Rattle.cl_core.specs.declared.core_state.Core.{Core}
 use Rattle.cl_history.specs.declared.entry.Entry.{Entry}
 use Rattle.cl_core.specs.declared.event.Ending.{Ending}
 use Rattle.cl_core.specs.declared.event.Ending.TheVariants as ending
-use Rattle.cl_rpc.specs.Classes.{class_of}
 use Rattle.cl_query.specs.AnswerOf.{AnswerOf}
 use Rattle.cl_history.specs.Given.{Given, received, loaded}
 use Rattle.cl_history.specs.History.{is_shut_down, pending}
 use Rattle.cl_history.specs.Legal.{IsSettled}
 use Rattle.cl_history.specs.Written.{Writes}
-use Rattle.cl_history.specs.Refusals.{is_exit}
 use Rattle.cl_core.specs.Steps.{status_of}
 use Rattle.cl_core.specs.Standing.{IsIdle, StandsFor, journal_of, past_of, reads_taken}
 use Rattle.clsd.proofs.InTime.{all_in_time}
 use Rattle.clsd.proofs.Reading.{makes_more, makes_none, next_behind}
-use Rattle.clsd.specs.Serving.{AreNext, ended_with, EndsInput, Holds, IsCutOff, IsOver, Keeps, LeavesIdle, Making, Turns}
+use Rattle.clsd.specs.Serving.{AreNext, ended_with, EndsInput, Holds, IsCutOff, Keeps, LeavesIdle, Making, Turns}
 use Rattle.clsd.specs.declared.turn.Turn.{Turn}
 use Rattle.clsd.specs.declared.turn.Turn.TheVariants.{Ends, SinkFailed, GoesOn}
 use Rattle.clsd.specs.Sessions.{Close, at_exit, at_edge, at_bad, at_long, at_source, at_sink, at_memory, MakesReads, NoneLast, SerialSession, StatusIs, LeavesUnread, given_of, is_last, is_whole}

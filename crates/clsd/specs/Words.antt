@@ -3,7 +3,6 @@ use Rattle.std.specs.Prelude.{ℕ, ◌+◌, ◌&&◌, ◌||◌, ◌==◌, nat_eq
 use Rattle.std.specs.List.{list_all, position_or_len, starts_with}
 use Rattle.std.specs.Str.{bytes_eq}
 use Rattle.cl_base.specs.declared.config.Define.{Define}
-use Rattle.cl_base.specs.declared.config.Settings.{Settings}
 use Rattle.clsd.specs.declared.command.Command.{Command}
 use Rattle.clsd.specs.declared.command.Command.TheVariants.{Serial, Bad}
 use Rattle.clsd.specs.declared.command.Next.{Next}

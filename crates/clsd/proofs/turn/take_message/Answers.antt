@@ -1,4 +1,4 @@
-use Rattle.std.proofs.Common.{◌≡◌, ◌++◌, [], refl, arith}
+use Rattle.std.proofs.Common.{◌≡◌, ◌++◌, refl, arith}
 use Rattle.std.specs.Prelude.{None, Some}
 use Rattle.std.specs.Io.KnownBytes.{append_known}
 use Rattle.cl_core.specs.Standing.{frames_of, jobs_of}
