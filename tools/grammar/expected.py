@@ -463,10 +463,10 @@ if __name__ == '__main__':
         if outside(c): print('pycparser takes', c)
         rows.append((c, 'none'))
     print(len(rows))
-    out = '//! Expressions and their trees: `T` and `U` are typedef names. Written by tools/grammar/expected.py, a parser that shares\n//! nothing with the tables.\n\n/// A text, and its tree as it is written out.\npub struct Case {\n    pub text: &\'static [u8],\n    pub tree: &\'static [u8],\n}\n\n'
+    d = os.path.join(os.path.dirname(os.path.abspath(__file__)), '..', '..', 'crates', 'cl_tree_tests', 'src')
     n = 70
     for i in range(0, len(rows), n):
-        out += f'pub static CASES_{i // n}: [Case; {len(rows[i:i + n])}] = [\n' + ''.join(f'    Case {{ text: b"{rust(a)}", tree: b"{rust(b)}" }},\n' for a, b in rows[i:i + n]) + '];\n\n'
-    d = os.path.join(os.path.dirname(os.path.abspath(__file__)), '..', '..', 'crates', 'cl_tree_tests', 'src')
-    os.makedirs(d, exist_ok=True)
-    open(os.path.join(d, 'cases.rt'), 'w').write(out.rstrip() + '\n')
+        k = i // n + 1
+        out = '//! Expressions and their trees: `T` and `U` are typedef names. Written by tools/grammar/expected.py, a parser that shares\n//! nothing with the tables.\n\nuse crate::expressions::Case;\n\n'
+        out += f'pub static CASES: [Case; {len(rows[i:i + n])}] = [\n' + ''.join(f'    Case {{ text: b"{rust(a)}", tree: b"{rust(b)}" }},\n' for a, b in rows[i:i + n]) + '];\n'
+        open(os.path.join(d, f'cases_{k}.rt'), 'w').write(out)

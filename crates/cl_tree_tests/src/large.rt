@@ -15,15 +15,69 @@ struct Case {
 
 /// The height of `(` around one name is 3 and two for each more; at 254 it is 511, at 255 it is 513.
 static CASES: [Case; 9] = [
-    Case { before: b"(", count: 100_000, middle: b"a", after: b"", has_tree: false },
-    Case { before: b"+", count: 1_000_000, middle: b"", after: b"", has_tree: false },
-    Case { before: b"- ", count: 1_000_000, middle: b"a", after: b"", has_tree: false },
-    Case { before: b"a[", count: 100_000, middle: b"a", after: b"", has_tree: false },
-    Case { before: b"a + ", count: 500_000, middle: b"a", after: b"", has_tree: false },
-    Case { before: b"a, ", count: 1_000_000, middle: b"a", after: b"", has_tree: false },
-    Case { before: b"a, ", count: 100, middle: b"a", after: b"", has_tree: true },
-    Case { before: b"(", count: 510, middle: b"a", after: b")", has_tree: true },
-    Case { before: b"(", count: 511, middle: b"a", after: b")", has_tree: false },
+    Case {
+        before: b"(",
+        count: 100_000,
+        middle: b"a",
+        after: b"",
+        has_tree: false,
+    },
+    Case {
+        before: b"+",
+        count: 1_000_000,
+        middle: b"",
+        after: b"",
+        has_tree: false,
+    },
+    Case {
+        before: b"- ",
+        count: 1_000_000,
+        middle: b"a",
+        after: b"",
+        has_tree: false,
+    },
+    Case {
+        before: b"a[",
+        count: 100_000,
+        middle: b"a",
+        after: b"",
+        has_tree: false,
+    },
+    Case {
+        before: b"a + ",
+        count: 500_000,
+        middle: b"a",
+        after: b"",
+        has_tree: false,
+    },
+    Case {
+        before: b"a, ",
+        count: 1_000_000,
+        middle: b"a",
+        after: b"",
+        has_tree: false,
+    },
+    Case {
+        before: b"a, ",
+        count: 100,
+        middle: b"a",
+        after: b"",
+        has_tree: true,
+    },
+    Case {
+        before: b"(",
+        count: 510,
+        middle: b"a",
+        after: b")",
+        has_tree: true,
+    },
+    Case {
+        before: b"(",
+        count: 511,
+        middle: b"a",
+        after: b")",
+        has_tree: false,
+    },
 ];
 
 #[test]

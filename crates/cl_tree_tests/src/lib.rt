@@ -3,9 +3,19 @@
 #![tactic(auto)]
 
 #[cfg(test)]
-mod cases;
+mod cases_1;
+#[cfg(test)]
+mod cases_2;
+#[cfg(test)]
+mod cases_3;
+#[cfg(test)]
+mod cases_4;
 #[cfg(test)]
 mod expressions;
+#[cfg(test)]
+mod grammar;
+#[cfg(test)]
+mod grammar_cases;
 #[cfg(test)]
 mod large;
 #[cfg(test)]

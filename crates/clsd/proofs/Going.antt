@@ -1,13 +1,12 @@
 -- A session that goes on from frame to frame, and its ends.
 use Rattle.std.proofs.Common.{◌≡◌, ◌⊎◌, ℕ, ◌+◌, ◌<◌, ◌≤◌, ◌^◌, List, [], ◌∷◌, ◌++◌, length, take, drop, Bool, true, false, refl, zero, suc, sym, ap, subst, ◌∙◌, append_assoc, append-nil, length-append, arith, inl, inr}
-use Rattle.std.specs.Prelude.{Option, Some, Result, Ok, Err, reverse, slice_get, IsTrue, if◌then◌else◌}
+use Rattle.std.specs.Prelude.{Option, Some, Result, Ok, Err, reverse, slice_get, IsTrue}
 use Rattle.std.proofs.lemmas.List.{take-append-drop, length-take-le}
 use Rattle.cl_frames.specs.Frames.{EndsWithin, ReadsFrame, whole, wrong, cut, first, window}
 use Rattle.cl_frames.specs.Sessions.{IsFront, SplitsInto, EndsAs, edge, bad, long, after_last}
 use Rattle.cl_frames.specs.Sessions as frames
 use Rattle.cl_frames.proofs.SessionLemmas.{front_nil, front_more, front_last, front_end, some_split, ends_wrong, ends_cut, ends_long}
 use Rattle.cl_base.specs.Reads.{Reads}
-use Rattle.cl_base.specs.declared.config.Define.{Define}
 use Rattle.cl_base.specs.declared.config.Settings.{Settings}
 use Rattle.cl_base.specs.declared.memory.Memory.{Memory as NoMemory}
 use Rattle.cl_frames.specs.declared.frame.Frame.TheVariants.{Body, End, Bad, Failed, Long, Memory}
@@ -16,21 +15,19 @@ use Rattle.cl_core.specs.declared.core_state.Core.{Core}
 use Rattle.cl_history.specs.declared.entry.Entry.{Entry}
 use Rattle.cl_core.specs.declared.event.Ending.{Ending}
 use Rattle.cl_core.specs.declared.event.Ending.TheVariants as ending
-use Rattle.cl_rpc.specs.Classes.{class_of}
 use Rattle.cl_query.specs.AnswerOf.{AnswerOf}
 use Rattle.cl_history.specs.Given.{Given, received, loaded}
 use Rattle.cl_history.specs.History.{is_shut_down, pending}
 use Rattle.cl_history.specs.Legal.{IsSettled}
 use Rattle.cl_history.specs.Written.{Writes}
-use Rattle.cl_history.specs.Refusals.{is_exit}
 use Rattle.cl_core.specs.Steps.{status_of}
 use Rattle.cl_core.specs.Standing.{IsIdle, StandsFor, journal_of, past_of, reads_taken}
 use Rattle.clsd.proofs.InTime.{all_in_time}
 use Rattle.clsd.proofs.Reading.{makes_more, makes_none, next_behind}
-use Rattle.clsd.specs.Serving.{AreNext, ended_with, EndsInput, Holds, IsCutOff, IsOver, Keeps, LeavesIdle, Making, Turns}
+use Rattle.clsd.specs.Serving.{AreNext, ended_with, EndsInput, Holds, IsCutOff, Keeps, LeavesIdle, Making, Turns}
 use Rattle.clsd.specs.declared.turn.Turn.{Turn}
 use Rattle.clsd.specs.declared.turn.Turn.TheVariants.{Ends, SinkFailed, GoesOn}
-use Rattle.clsd.specs.Sessions.{Close, at_exit, at_edge, at_bad, at_long, at_source, at_sink, at_memory, MakesReads, NoneLast, SerialSession, StatusIs, LeavesUnread, given_of, is_last, is_whole, no_settings}
+use Rattle.clsd.specs.Sessions.{Close, at_exit, at_edge, at_bad, at_long, at_source, at_sink, at_memory, MakesReads, NoneLast, SerialSession, StatusIs, LeavesUnread, given_of, is_last, is_whole}
 
 -- a serial session that made these reads, or some
 abbrev pub Served : Settings → (bytes : List ℕ) → (before told : Option Reads) → (faults now : ℕ) → (left held : Option (List ℕ)) → List Entry → (code offset : ℕ) → Type 0
@@ -305,9 +302,12 @@ module _ (config : Settings) (bytes : List ℕ) (before told : Option Reads) (fa
       → ((b : Bool) → StatusIs close b ends (status_of how) offset) → LeavesUnread close bytes (g.front ++ take count g.behind) (drop count g.behind) g.bodies offset
       → EndsInput (given_of config g.bodies g.reads) old how new g.now res
       → Served config bytes before told faults faults_now left held (journal_of new) (ended_with res offset).status (ended_with res offset).at
-  ends_here count ends close how offset new res left_is here stat unread input =
-      (g.reads, g.made, ended_input config bytes (g.front ++ take count g.behind) (drop count g.behind) left held g.bodies g.reads ends close old new how g.now offset res
-      (taken_parts bytes g.front g.behind count g.parts) left_is (front_end is_last g.front (take count g.behind) g.bodies ends g.is_front here) g.held_is few_given (λ e. g.count) g.loads stat unread input)
+  ends_here count ends close how offset new res left_is here stat unread input = (
+    g.reads,
+    g.made,
+    ended_input config bytes (g.front ++ take count g.behind) (drop count g.behind) left held g.bodies g.reads ends close old new how g.now offset res
+        (taken_parts bytes g.front g.behind count g.parts) left_is (front_end is_last g.front (take count g.behind) g.bodies ends g.is_front here) g.held_is few_given (λ e. g.count) g.loads stat unread input,
+  )
 
   pub at_the_edge : (new : Core) (res : Result ℕ NoMemory) → ReadsFrame at now g.behind left End → EndsInput (given_of config g.bodies g.reads) old ending.Edge new g.now res
       → Served config bytes before told faults faults_now left held (journal_of new) (ended_with res 0).status (ended_with res 0).at
@@ -356,10 +356,13 @@ module _ (config : Settings) (bytes : List ℕ) (before told : Option Reads) (fa
   pub for_memory : (new : Core) (res : Result ℕ NoMemory) (read : ReadsFrame at now g.behind left Memory) → EndsInput (given_of config (g.bodies ++ unseen read) g.reads) old ending.Memory new g.now res
       → Served config bytes before told faults faults_now left held (journal_of new) (ended_with res 0).status (ended_with res 0).at
   for_memory new res read input =
-      let split = some_split is_last (length g.front) (take read.count g.behind) front_room in
-      (g.reads, g.made, ended_input config bytes (g.front ++ take read.count g.behind) (drop read.count g.behind) left held (g.bodies ++ split.0) g.reads split.1 at_memory old new ending.Memory g.now 0 res
-      (taken_parts bytes g.front g.behind read.count g.parts) read.left_is (g.is_front.joins (take read.count g.behind) split.0 split.1 split.2) g.held_is
-      (let same : old.messages ≡ length g.bodies = g.count in omega (arith, length-append g.bodies split.0)) (λ e. absurd (false_is e)) g.loads (λ b. (refl, refl)) tt input)
+      let split = some_split is_last (length g.front) (take read.count g.behind) front_room in (
+        g.reads,
+        g.made,
+        ended_input config bytes (g.front ++ take read.count g.behind) (drop read.count g.behind) left held (g.bodies ++ split.0) g.reads split.1 at_memory old new ending.Memory g.now 0 res
+            (taken_parts bytes g.front g.behind read.count g.parts) read.left_is (g.is_front.joins (take read.count g.behind) split.0 split.1 split.2) g.held_is
+            (let same : old.messages ≡ length g.bodies = g.count in omega (arith, length-append g.bodies split.0)) (λ e. absurd (false_is e)) g.loads (λ b. (refl, refl)) tt input,
+      )
 
 -- ---- the first frame
 
@@ -420,9 +423,3 @@ never config bytes left held left_is held_is = record {
 pub never_began : (config : Settings) (bytes : List ℕ) (told : Option Reads) (faults : ℕ) (left held : Option (List ℕ)) → left ≡ Some bytes → held ≡ Some [] → Served config bytes told told faults faults left held [] 7 0
 never_began config bytes told faults left held left_is held_is =
     ([], makes_none told told faults faults refl (let same : faults ≡ faults = refl in omega arith), never config bytes left held left_is held_is)
-
--- settings that are made of no folders and no macros
-pub no_settings_but : (these those : Settings) (includes : List (List ℕ)) (defines : List Define) → these ≡ no_settings → those ≡ record { includes = includes; defines = defines }
-    → includes ≡ [] → defines ≡ [] → these ≡ those
-no_settings_but these those includes defines plain made no_includes no_defines =
-    plain ∙ sym (made ∙ rw no_includes (rw no_defines refl))

@@ -4,3 +4,4 @@ pub mod Served
 pub mod Going
 pub mod InTime
 pub mod Complete
+pub mod Worded

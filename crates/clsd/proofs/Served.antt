@@ -22,7 +22,6 @@ use Rattle.cl_core.specs.Steps.{IsLost, Lacks, Loads, Steps, awaited_message, he
 use Rattle.cl_query.specs.declared.done.Need.{Need}
 use Rattle.cl_query.specs.declared.seen.Dep.{Dep}
 use Rattle.cl_headers.specs.Headers.{known_at}
-use Rattle.cl_core.specs.declared.event.Effect.TheVariants as effect
 use Rattle.cl_core.specs.Waiting.{number_of}
 use Rattle.cl_core.specs.Standing as standing
 use Rattle.cl_core.specs.Standing.{AwaitsRead, EndsTurn, IsIdle, IsNext, IsReady, ReadsFirst, Restarts, StandsFor, TakesTurn, WorksOn, WritesOn, finish_of, frames_of, jobs_of, loads_of, journal_of, messages_taken, past_of, reads_taken}
@@ -30,7 +29,7 @@ use Rattle.clsd.specs.First.{first_of}
 use Rattle.clsd.specs.declared.turn.Turn.{Turn}
 use Rattle.clsd.specs.declared.turn.Turn.TheVariants.{Ends, GoesOn, SinkFailed}
 use Rattle.cl_base.specs.declared.memory.Memory.{Memory}
-use Rattle.clsd.specs.Serving.{Awaits, EndsWork, EndsWorked, Holds, IsCutOff, IsEndOf, IsOver, Keeps, LeavesIdle, LeavesWork, TookReads, TookSome, Turns, Works, turn_of}
+use Rattle.clsd.specs.Serving.{Awaits, EndsWork, Holds, IsCutOff, IsEndOf, IsOver, Keeps, LeavesIdle, LeavesWork, TookReads, TookSome, Turns, Works, turn_of}
 
 -- what a session stands for and has written, before or after a step
 pub record Stands (given : Given) (core : Core) (held : List ℕ) : Type 0 where

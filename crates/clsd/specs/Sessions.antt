@@ -28,10 +28,6 @@ is_last body = is_exit (class_of (message_in body))
 abbrev pub messages_in : List (List ℕ) → List Parsed
 messages_in bodies = map message_in bodies
 
--- no folders for headers, and no macros that are defined before a text
-abbrev pub no_settings : Settings
-no_settings = record { includes = []; defines = [] }
-
 -- what a session of these bodies is given, which made these reads of headers
 abbrev pub given_of : Settings → List (List ℕ) → Reads → Given
 given_of config bodies reads = record { config = config; messages = messages_in bodies; reads = reads }

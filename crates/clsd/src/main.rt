@@ -2,6 +2,9 @@
 #![tactic(auto)]
 
 mod command;
+mod folder;
+#[cfg(test)]
+mod folder_tests;
 mod outcome;
 #[cfg(test)]
 mod scripts;
@@ -10,12 +13,15 @@ mod session;
 #[cfg(test)]
 mod tests;
 mod turn;
+#[cfg(test)]
+mod word_tests;
 mod work;
 
 use crate::command::{Command, command_of};
+use crate::folder::Folder;
 use crate::outcome::{NO_MEMORY, WRONG_WORDS};
 use crate::serve::serve_serial;
-use cl_base::{List, MemoryHeaders};
+use cl_base::Memory;
 use cl_frames::{StdSink, StdSource};
 use std::process::ExitCode;
 use std::{env, io};
@@ -32,15 +38,15 @@ fn main(rt: HostRuntime) -> ExitCode {
             return ExitCode::from(NO_MEMORY);
         }
     }
-    if let Command::Bad(_) = command_of(words.as_slice()) {
-        return ExitCode::from(WRONG_WORDS);
+    match command_of(alloc, words.as_slice()) {
+        Ok(Command::Serial(_)) => {}
+        Ok(Command::Bad(_)) => return ExitCode::from(WRONG_WORDS),
+        Err(Memory) => return ExitCode::from(NO_MEMORY),
     }
     let Ok(mut source) = StdSource::new(alloc, rt.stdin()) else {
         return ExitCode::from(NO_MEMORY);
     };
-    let Ok(mut headers) = MemoryHeaders::new(alloc, List::new(alloc), &[]) else {
-        return ExitCode::from(NO_MEMORY);
-    };
+    let mut headers = Folder::new(&rt);
     let mut sink = StdSink::new(rt.stdout());
     let outcome = serve_serial(
         alloc,

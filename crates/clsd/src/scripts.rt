@@ -144,3 +144,15 @@ pub fn two_uris() -> &'static str {
 > {\"jsonrpc\":\"2.0\",\"method\":\"exit\"}
 "
 }
+
+/// A session whose words define `M` as `int m;` and then as `int n;`, and a watched change of a header.
+pub fn macros() -> &'static str {
+    "> {\"jsonrpc\":\"2.0\",\"id\":1,\"method\":\"initialize\",\"params\":{}}
+< {\"id\":1,\"jsonrpc\":\"2.0\",\"result\":{\"capabilities\":{\"documentSymbolProvider\":true,\"textDocumentSync\":1},\"serverInfo\":{\"name\":\"clsd\"}}}
+> {\"jsonrpc\":\"2.0\",\"method\":\"textDocument/didOpen\",\"params\":{\"textDocument\":{\"uri\":\"file:///a.c\",\"version\":1,\"text\":\"M\\n\"}}}
+> {\"jsonrpc\":\"2.0\",\"method\":\"workspace/didChangeWatchedFiles\",\"params\":{\"changes\":[{\"uri\":\"file:///p/k.h\",\"type\":1}]}}
+> {\"jsonrpc\":\"2.0\",\"id\":2,\"method\":\"textDocument/documentSymbol\",\"params\":{\"textDocument\":{\"uri\":\"file:///a.c\"}}}
+< {\"id\":2,\"jsonrpc\":\"2.0\",\"result\":[{\"kind\":13,\"name\":\"n\",\"range\":{\"end\":{\"character\":1,\"line\":0},\"start\":{\"character\":0,\"line\":0}},\"selectionRange\":{\"end\":{\"character\":1,\"line\":0},\"start\":{\"character\":0,\"line\":0}}}]}
+> {\"jsonrpc\":\"2.0\",\"method\":\"exit\"}
+"
+}

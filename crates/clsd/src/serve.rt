@@ -1,10 +1,11 @@
-ghost use Rattle.std.specs.Prelude.{◌≡◌, ◌≢◌, ◌≤◌, ℕ, List, [], Some, None, IfOk, map, string_bytes};
+ghost use Rattle.std.specs.Prelude.{◌≡◌, ◌≢◌, ◌≤◌, ◌⊎◌, ℕ, List, [], Some, None, IfOk, map, string_bytes};
 ghost use Rattle.cl_base.specs.Faults.{HasCause};
 ghost use Rattle.cl_base.specs.Reads.{Reads};
+ghost use Rattle.cl_base.specs.declared.config.Settings.{Settings};
 ghost use Rattle.cl_frames.specs.Sessions.{SplitsInto, after_last};
 ghost use Rattle.cl_history.specs.Given.{Given};
 ghost use Rattle.cl_core.specs.Standing.{IsIdle, StandsFor, journal_of};
-ghost use Rattle.clsd.specs.Sessions.{MakesReads, SerialSession, RanToTheEnd, StoodStill, is_last, no_settings};
+ghost use Rattle.clsd.specs.Sessions.{MakesReads, SerialSession, RanToTheEnd, StoodStill, is_last};
 ghost use Rattle.clsd.specs.Words.{command_in};
 
 use crate::command::{Command, command_of};
@@ -26,25 +27,32 @@ pub fn serve_serial<S: Source, K: Sink, H: HeaderSource>(
     sink: &mut K,
     headers: &mut H,
 ) -> Outcome
-    ensures session { (bytes : List ℕ) → command_in (map string_bytes words.now) ≡ Command.Serial
+    ensures session { (config : Settings) (bytes : List ℕ) → command_in (map string_bytes words.now) ≡ Command.Serial config
         → S.left source.old ≡ Some bytes → K.held sink.old ≡ Some []
         → (reads : Reads) × MakesReads (H.reads headers.old) (H.reads headers.new) (H.faults headers.old) (H.faults headers.new) reads
-        × SerialSession no_settings bytes reads (S.left source.new) (K.held sink.new) result.journal result.status result.at }
-    ensures complete { (bytes : List ℕ) (bodies : List (List ℕ)) (rest : List ℕ) → command_in (map string_bytes words.now) ≡ Command.Serial
+        × SerialSession config bytes reads (S.left source.new) (K.held sink.new) result.journal result.status result.at }
+    ensures complete { (config : Settings) (bytes : List ℕ) (bodies : List (List ℕ)) (rest : List ℕ) → command_in (map string_bytes words.now) ≡ Command.Serial config
         → S.left source.old ≡ Some bytes → K.held sink.old ≡ Some []
         → SplitsInto is_last 0 bytes bodies (after_last rest) → StoodStill (S.faults source.old) (S.faults source.new) → StoodStill (K.faults sink.old) (K.faults sink.new) → RanToTheEnd result.status }
-    ensures served { command_in (map string_bytes words.now) ≡ Command.Serial → result.status ≢ 6 }
-    ensures wrong_words { command_in (map string_bytes words.now) ≢ Command.Serial
-        → (result.status ≡ 6) × (result.at ≡ 0) × (result.journal ≡ []) × (source.new ≡ source.old) × (sink.new ≡ sink.old) × (headers.new ≡ headers.old) }
+    ensures served { (config : Settings) → command_in (map string_bytes words.now) ≡ Command.Serial config → result.status ≢ 6 }
+    ensures wrong_words { (n : ℕ) → command_in (map string_bytes words.now) ≡ Command.Bad n
+        → ((result.status ≡ 6) ⊎ (result.status ≡ 7)) × (result.at ≡ 0) × (result.journal ≡ []) × (source.new ≡ source.old) × (sink.new ≡ sink.old) × (headers.new ≡ headers.old) }
     ensures source { HasCause (S.faults source.old) (S.faults source.new) (result.status ≡ 4) }
     ensures sink { HasCause (K.faults sink.old) (K.faults sink.new) (result.status ≡ 5) }
     ensures headers { (H.faults headers.old ≤ H.faults headers.new) × (result.links ≡ 0) }
 {
-    match command_of(words) {
-        Command::Serial => serve(alloc, source, sink, headers),
-        Command::Bad(_) => outcome(
+    match command_of(alloc, words) {
+        Ok(Command::Serial(config)) => serve(alloc, &config, source, sink, headers),
+        Ok(Command::Bad(_)) => outcome(
             Ended {
                 status: WRONG_WORDS,
+                at: 0,
+            },
+            List::new(alloc),
+        ),
+        Err(Memory) => outcome(
+            Ended {
+                status: NO_MEMORY,
                 at: 0,
             },
             List::new(alloc),
@@ -52,16 +60,17 @@ pub fn serve_serial<S: Source, K: Sink, H: HeaderSource>(
     }
 }
 
-/// Serves one session without workers.
+/// Serves one session with this config and without workers.
 fn serve<S: Source, K: Sink, H: HeaderSource>(
     alloc: Global,
+    config: &Config,
     source: &mut S,
     sink: &mut K,
     headers: &mut H,
 ) -> Outcome
     ensures session { (bytes : List ℕ) → S.left source.old ≡ Some bytes → K.held sink.old ≡ Some []
         → (reads : Reads) × MakesReads (H.reads headers.old) (H.reads headers.new) (H.faults headers.old) (H.faults headers.new) reads
-        × SerialSession no_settings bytes reads (S.left source.new) (K.held sink.new) result.journal result.status result.at }
+        × SerialSession config.now bytes reads (S.left source.new) (K.held sink.new) result.journal result.status result.at }
     ensures complete { (bytes : List ℕ) (bodies : List (List ℕ)) (rest : List ℕ) → S.left source.old ≡ Some bytes → K.held sink.old ≡ Some []
         → SplitsInto is_last 0 bytes bodies (after_last rest) → StoodStill (S.faults source.old) (S.faults source.new) → StoodStill (K.faults sink.old) (K.faults sink.new) → RanToTheEnd result.status }
     ensures served { result.status ≢ 6 }
@@ -69,7 +78,7 @@ fn serve<S: Source, K: Sink, H: HeaderSource>(
     ensures sink { HasCause (K.faults sink.old) (K.faults sink.new) (result.status ≡ 5) }
     ensures headers { (H.faults headers.old ≤ H.faults headers.new) × (result.links ≡ 0) }
 {
-    match begin(alloc) {
+    match begin(alloc, config) {
         Ok((frames, core)) => {
             let mut frames = frames;
             let mut core = core;
@@ -86,15 +95,14 @@ fn serve<S: Source, K: Sink, H: HeaderSource>(
     }
 }
 
-/// A session in which nothing has happened, and its frames. It reads texts with no settings.
-fn begin(alloc: Global) -> Mem<(Frames, Core)>
+/// A session in which nothing has happened, and its frames.
+fn begin(alloc: Global, config: &Config) -> Mem<(Frames, Core)>
     ensures frames { IfOk result (λ begun. (begun.0.taken ≡ 0) × (begun.0.last ≡ None)) }
-    ensures stands { IfOk result (λ begun. (given : Given) → given.config ≡ no_settings → StandsFor given begun.1) }
+    ensures stands { IfOk result (λ begun. (given : Given) → given.config ≡ config.now → StandsFor given begun.1) }
     ensures journal { IfOk result (λ begun. journal_of begun.1 ≡ []) }
     ensures idle { IfOk result (λ begun. IsIdle begun.1) }
 {
-    let config = Config::new(alloc, List::new(alloc), List::new(alloc))?;
-    let core = Core::new(alloc, &config)?;
+    let core = Core::new(alloc, config)?;
     let frames = Frames::new(alloc)?;
     Ok((frames, core))
 }

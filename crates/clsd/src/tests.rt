@@ -23,21 +23,17 @@ fn frames_of(alloc: Global, script: &str, mark: &str) -> Result<String, Fail> {
     Ok(frames)
 }
 
-/// The words of a session without workers.
-fn words(alloc: Global) -> Result<Vec<String>, Fail> {
-    let mut words = Vec::new(alloc);
-    words.push(String::from_str(alloc, "serve")?)?;
-    words.push(String::from_str(alloc, "--workers=0")?)?;
-    Ok(words)
-}
-
-/// The outcome of a session over these bytes, and what it wrote.
+/// The outcome of a session with these words over these bytes, and what it wrote. The words stand between bars.
 fn served(
     alloc: Global,
+    row: &str,
     source: MemorySource,
     sink: MemorySink,
 ) -> Result<(Outcome, MemorySink), Fail> {
-    let words = words(alloc)?;
+    let mut words = Vec::new(alloc);
+    for word in row.split('|') {
+        words.push(String::from_str(alloc, word)?)?;
+    }
     let mut headers = MemoryHeaders::new(alloc, List::new(alloc), &[]).map_err(of_memory)?;
     let mut source = source;
     let mut sink = sink;
@@ -55,13 +51,22 @@ fn of_memory(_memory: Memory) -> &'static str {
     "memory"
 }
 
-/// Plays a script through a source that gives one byte at a time and a sink that takes three.
-fn plays(rt: &impl Abort, alloc: Global, script: &str, status: u8) -> Result<Outcome, Fail> {
+/// The words of a session without workers.
+const SERVE: &str = "serve|--workers=0";
+
+/// Plays a script, with these words, through a source that gives one byte at a time and a sink that takes three.
+fn plays(
+    rt: &impl Abort,
+    alloc: Global,
+    words: &str,
+    script: &str,
+    status: u8,
+) -> Result<Outcome, Fail> {
     let input = frames_of(alloc, script, "> ")?;
     let wanted = frames_of(alloc, script, "< ")?;
     let source = MemorySource::new(alloc, input.as_bytes(), 1, &[]).map_err(of_memory)?;
     let sink = MemorySink::new(alloc, 3, &[]).map_err(of_memory)?;
-    let (outcome, sink) = served(alloc, source, sink)?;
+    let (outcome, sink) = served(alloc, words, source, sink)?;
     assert_eq!(rt; outcome.status, status, "the status of {script}");
     assert!(rt; sink.held() == wanted.as_bytes(), "the replies of {script}");
     Ok(outcome)
@@ -98,7 +103,7 @@ fn how_told(how: How) -> &'static str {
 #[test]
 fn first_session(rt: HostRuntime) -> Result<(), Fail> {
     let alloc = rt.alloc();
-    let outcome = plays(&rt, alloc, scripts::first_session(), 0)?;
+    let outcome = plays(&rt, alloc, SERVE, scripts::first_session(), 0)?;
     let journal = told(alloc, &outcome.journal)?;
     assert!(rt;
         journal.as_str()
@@ -112,11 +117,13 @@ fn first_session(rt: HostRuntime) -> Result<(), Fail> {
 #[test]
 fn refusals_and_edits(rt: HostRuntime) -> Result<(), Fail> {
     let alloc = rt.alloc();
-    plays(&rt, alloc, scripts::refusals(), 0)?;
-    plays(&rt, alloc, scripts::edits(), 1)?;
-    plays(&rt, alloc, scripts::no_exit(), 2)?;
-    plays(&rt, alloc, scripts::five_documents(), 0)?;
-    plays(&rt, alloc, scripts::two_uris(), 1)?;
+    plays(&rt, alloc, SERVE, scripts::refusals(), 0)?;
+    plays(&rt, alloc, SERVE, scripts::edits(), 1)?;
+    plays(&rt, alloc, SERVE, scripts::no_exit(), 2)?;
+    plays(&rt, alloc, SERVE, scripts::five_documents(), 0)?;
+    plays(&rt, alloc, SERVE, scripts::two_uris(), 1)?;
+    let words = "serve|-DM=int m;|-I|/p|-D|M=int n;";
+    plays(&rt, alloc, words, scripts::macros(), 1)?;
     Ok(())
 }
 
@@ -131,7 +138,7 @@ fn ends_within_a_frame(rt: HostRuntime) -> Result<(), Fail> {
     bytes.extend_from_slice(b"Content-Length: 5\r\n\r\n{}")?;
     let source = MemorySource::new(alloc, bytes.as_slice(), 7, &[]).map_err(of_memory)?;
     let sink = MemorySink::new(alloc, 9, &[]).map_err(of_memory)?;
-    let (outcome, sink) = served(alloc, source, sink)?;
+    let (outcome, sink) = served(alloc, SERVE, source, sink)?;
     assert_eq!(rt; outcome.status, 3);
     assert_eq!(rt; outcome.at, whole);
     assert!(rt; sink.held() == wanted.as_bytes());
@@ -149,7 +156,7 @@ fn each_fault_in_turn(rt: HostRuntime) -> Result<(), Fail> {
         let fails = [call];
         let source = MemorySource::new(alloc, input.as_bytes(), 64, &fails).map_err(of_memory)?;
         let sink = MemorySink::new(alloc, 1000, &[]).map_err(of_memory)?;
-        let (outcome, sink) = served(alloc, source, sink)?;
+        let (outcome, sink) = served(alloc, SERVE, source, sink)?;
         if outcome.status == 0 {
             past_the_last = true;
             assert!(rt; sink.held() == wanted.as_bytes(), "no read failed");
@@ -163,7 +170,7 @@ fn each_fault_in_turn(rt: HostRuntime) -> Result<(), Fail> {
         let fails = [call];
         let source = MemorySource::new(alloc, input.as_bytes(), 64, &[]).map_err(of_memory)?;
         let sink = MemorySink::new(alloc, 50, &fails).map_err(of_memory)?;
-        let (outcome, sink) = served(alloc, source, sink)?;
+        let (outcome, sink) = served(alloc, SERVE, source, sink)?;
         assert_eq!(rt; outcome.status, 5, "a write that fails");
         assert!(rt; wanted.as_bytes().starts_with(sink.held()));
     }
@@ -174,21 +181,11 @@ fn each_fault_in_turn(rt: HostRuntime) -> Result<(), Fail> {
 #[test]
 fn wrong_words(rt: HostRuntime) -> Result<(), Fail> {
     let alloc = rt.alloc();
-    let mut words = Vec::new(alloc);
-    words.push(String::from_str(alloc, "serve")?)?;
-    words.push(String::from_str(alloc, "-x")?)?;
-    let mut headers = MemoryHeaders::new(alloc, List::new(alloc), &[]).map_err(of_memory)?;
-    let mut source = MemorySource::new(alloc, b"Content", 1, &[]).map_err(of_memory)?;
-    let mut sink = MemorySink::new(alloc, 1, &[]).map_err(of_memory)?;
-    let outcome = serve_serial(
-        alloc,
-        words.as_slice(),
-        &mut source,
-        &mut sink,
-        &mut headers,
-    );
+    let source = MemorySource::new(alloc, b"Content", 1, &[]).map_err(of_memory)?;
+    let sink = MemorySink::new(alloc, 1, &[]).map_err(of_memory)?;
+    let (outcome, sink) = served(alloc, "serve|-I|include", source, sink)?;
     assert_eq!(rt; outcome.status, 6);
-    assert_eq!(rt; source.rest().len(), 7);
+    assert_eq!(rt; outcome.at, 0);
     assert_eq!(rt; sink.held().len(), 0);
     Ok(())
 }

@@ -69,12 +69,7 @@ fn read_first<H: HeaderSource>(
 }
 
 /// Reads the header of a path. The job that starts again with it.
-fn load<H: HeaderSource>(
-    alloc: Global,
-    core: &mut Core,
-    headers: &mut H,
-    path: Path,
-) -> Mem<Job>
+fn load<H: HeaderSource>(alloc: Global, core: &mut Core, headers: &mut H, path: Path) -> Mem<Job>
     ensures reads { Making (H.reads headers.old) (H.reads headers.new) (H.faults headers.old) (H.faults headers.new) (reads_taken core.old)
         (λ given made. (held : List ℕ) → Awaits given core.old path held → LeavesWork (λ job. Works given core.new job held) given core.old core.new made held result) }
     ensures works { AwaitsRead core.old path → IfOk result (WorksOn core.new) }

@@ -8,9 +8,9 @@ use Rattle.clsd.proofs.work.work.Goals as goal
 pub returns-in-Err-clause-reads : goal.returns-in-Err-clause-reads
 returns-in-Err-clause-reads g c =
     made_more _ _ _ _ _ _ _ _ _ _ _ c.loop-count.invariant.reads c.in-Err.ensures.reads (λ given xs ys so_far last held works.
-        let here = so_far held works in
-        let off = last here.1.1 held (subst (λ job. Works given c.loop-count.core job held) (sym c.in-Need.ensures) here.0) in
-        (off.0, took_some_more c.args.core.now c.loop-count.core c.read_first.new.core xs ys here.1 off.1))
+    let here = so_far held works in
+    let off = last here.1.1 held (subst (λ job. Works given c.loop-count.core job held) (sym c.in-Need.ensures) here.0) in
+    (off.0, took_some_more c.args.core.now c.loop-count.core c.read_first.new.core xs ys here.1 off.1))
 
 pub loop-count-preserved : goal.loop-count-preserved
 loop-count-preserved g c = record {

@@ -1,0 +1,124 @@
+use crate::grammar_cases::LINES;
+use cl_base::Mem;
+use cl_tree::{
+    Class, Nonterminal, Part, Production, Rule, Symbol, Terminal, parts, productions, units,
+};
+use std::alloc::Global;
+use std::test::Fail;
+
+/// The table, written out, is the list that was typed in from the standard.
+#[test]
+fn table(rt: HostRuntime) -> Result<(), Fail> {
+    let alloc = rt.alloc();
+    let lines = table_lines(alloc)?;
+    for line in lines.as_slice() {
+        let typed = LINES.iter().any(|one| *one == line.as_bytes());
+        assert!(rt; typed, "{line}");
+    }
+    for typed in LINES.as_slice() {
+        let found = lines.iter().any(|line| line.as_bytes() == *typed);
+        assert!(rt; found, "an alternative is not in the table");
+    }
+    Ok(())
+}
+
+/// Each production with and without each of its optional parts, and each nonterminal that stands for another.
+fn table_lines(alloc: Global) -> Mem<Vec<String>> {
+    let mut lines = Vec::new(alloc);
+    for production in productions() {
+        if !matches!(
+            production.rule,
+            Rule::DeclarationSpecifiers | Rule::SpecifierQualifierList
+        ) {
+            let head = format!(in alloc; "{:?} {}:", production.rule, production.choice)?;
+            add_lines(alloc, &mut lines, head, production)?;
+        }
+    }
+    for unit in units() {
+        let of = standard(unit.of);
+        let by = standard(unit.by);
+        if is_standard(unit.of) && of != by {
+            lines.push(format!(in alloc; "{of:?} unit: {by:?}")?)?;
+        }
+    }
+    Ok(lines)
+}
+
+fn add_lines(
+    alloc: Global,
+    lines: &mut Vec<String>,
+    head: String,
+    production: &Production,
+) -> Mem<()> {
+    let mut made = Vec::new(alloc);
+    made.push(head)?;
+    let from = production.parts.from as usize;
+    let to = production.parts.to as usize;
+    for part in parts().iter().skip(from).take(to.saturating_sub(from)) {
+        made = longer(alloc, made.as_slice(), *part)?;
+    }
+    for line in made.as_slice() {
+        lines.push(line.clone()?)?;
+    }
+    Ok(())
+}
+
+/// The lines with one more part: a part that may be left out stands in half of them, and what may stand any number of times
+/// in none.
+fn longer(alloc: Global, lines: &[String], part: Part) -> Mem<Vec<String>> {
+    let mut made = Vec::new(alloc);
+    for line in lines {
+        match part {
+            Part::One(symbol) => made.push(with(alloc, line, symbol)?)?,
+            Part::Optional(symbol) => {
+                made.push(with(alloc, line, symbol)?)?;
+                made.push(line.clone()?)?;
+            }
+            Part::Many(_) => made.push(line.clone()?)?,
+        }
+    }
+    Ok(made)
+}
+
+fn with(alloc: Global, line: &String, symbol: Symbol) -> Mem<String> {
+    let text = match symbol {
+        Symbol::Token(terminal, _) => format!(in alloc; "{line} {:?}", plain(terminal))?,
+        Symbol::Node(goal) => format!(in alloc; "{line} {:?}", standard(goal))?,
+    };
+    Ok(text)
+}
+
+/// A terminal without what it asks of the tokens around it.
+fn plain(terminal: Terminal) -> Class {
+    match terminal {
+        Terminal::Name | Terminal::Typed => Class::Ident,
+        Terminal::Open | Terminal::TypeOpen => Class::LeftParen,
+        Terminal::Is(Class::TypeParen) | Terminal::Is(Class::LiteralParen) => Class::LeftParen,
+        Terminal::Is(Class::LastComma) | Terminal::Is(Class::DesignationComma) => Class::Comma,
+        Terminal::Is(Class::StarBracket) => Class::Star,
+        Terminal::Is(Class::AtomicParen) => Class::Atomic,
+        Terminal::Is(class) => class,
+    }
+}
+
+/// The standard's nonterminal for one that tells apart where it stands.
+fn standard(goal: Nonterminal) -> Nonterminal {
+    match goal {
+        Nonterminal::LaterTypeSpecifier => Nonterminal::TypeSpecifier,
+        Nonterminal::ParameterDeclarator => Nonterminal::Declarator,
+        Nonterminal::DirectParameterDeclarator => Nonterminal::DirectDeclarator,
+        other => other,
+    }
+}
+
+/// Whether a nonterminal is one of the standard, or stands for one.
+fn is_standard(goal: Nonterminal) -> bool {
+    !matches!(
+        goal,
+        Nonterminal::OtherSpecifier
+            | Nonterminal::LaterSpecifier
+            | Nonterminal::LaterQualifier
+            | Nonterminal::AnyDeclarator
+            | Nonterminal::DirectAnyDeclarator
+    )
+}
