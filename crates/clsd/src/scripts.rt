@@ -14,6 +14,38 @@ pub fn first_session() -> &'static str {
 "
 }
 
+/// A document that includes a header: the symbols are its own.
+pub fn one_header() -> &'static str {
+    "@ /a.h int y;
+> {\"jsonrpc\":\"2.0\",\"id\":1,\"method\":\"initialize\",\"params\":{}}
+< {\"id\":1,\"jsonrpc\":\"2.0\",\"result\":{\"capabilities\":{\"documentSymbolProvider\":true,\"textDocumentSync\":1},\"serverInfo\":{\"name\":\"clsd\"}}}
+> {\"jsonrpc\":\"2.0\",\"method\":\"textDocument/didOpen\",\"params\":{\"textDocument\":{\"uri\":\"file:///m.c\",\"version\":1,\"text\":\"#include \\\"a.h\\\"\\nint z;\\n\"}}}
+> {\"jsonrpc\":\"2.0\",\"id\":2,\"method\":\"textDocument/documentSymbol\",\"params\":{\"textDocument\":{\"uri\":\"file:///m.c\"}}}
+< {\"id\":2,\"jsonrpc\":\"2.0\",\"result\":[{\"kind\":13,\"name\":\"z\",\"range\":{\"end\":{\"character\":6,\"line\":1},\"start\":{\"character\":0,\"line\":1}},\"selectionRange\":{\"end\":{\"character\":5,\"line\":1},\"start\":{\"character\":4,\"line\":1}}}]}
+> {\"jsonrpc\":\"2.0\",\"id\":3,\"method\":\"shutdown\"}
+< {\"id\":3,\"jsonrpc\":\"2.0\",\"result\":null}
+> {\"jsonrpc\":\"2.0\",\"method\":\"exit\"}
+"
+}
+
+/// A header whose first read fails: it isn't read again for the next request, and is after a change of it that is announced.
+pub fn header_that_failed() -> &'static str {
+    "@ /p/k.h #define M int b;
+! 0
+> {\"jsonrpc\":\"2.0\",\"id\":1,\"method\":\"initialize\",\"params\":{}}
+< {\"id\":1,\"jsonrpc\":\"2.0\",\"result\":{\"capabilities\":{\"documentSymbolProvider\":true,\"textDocumentSync\":1},\"serverInfo\":{\"name\":\"clsd\"}}}
+> {\"jsonrpc\":\"2.0\",\"method\":\"textDocument/didOpen\",\"params\":{\"textDocument\":{\"uri\":\"file:///m.c\",\"version\":1,\"text\":\"#include <k.h>\\nM\\n\"}}}
+> {\"jsonrpc\":\"2.0\",\"id\":2,\"method\":\"textDocument/documentSymbol\",\"params\":{\"textDocument\":{\"uri\":\"file:///m.c\"}}}
+< {\"id\":2,\"jsonrpc\":\"2.0\",\"result\":[]}
+> {\"jsonrpc\":\"2.0\",\"id\":3,\"method\":\"textDocument/documentSymbol\",\"params\":{\"textDocument\":{\"uri\":\"file:///m.c\"}}}
+< {\"id\":3,\"jsonrpc\":\"2.0\",\"result\":[]}
+> {\"jsonrpc\":\"2.0\",\"method\":\"workspace/didChangeWatchedFiles\",\"params\":{\"changes\":[{\"uri\":\"file:///p/k.h\",\"type\":2}]}}
+> {\"jsonrpc\":\"2.0\",\"id\":4,\"method\":\"textDocument/documentSymbol\",\"params\":{\"textDocument\":{\"uri\":\"file:///m.c\"}}}
+< {\"id\":4,\"jsonrpc\":\"2.0\",\"result\":[{\"kind\":13,\"name\":\"b\",\"range\":{\"end\":{\"character\":1,\"line\":1},\"start\":{\"character\":0,\"line\":1}},\"selectionRange\":{\"end\":{\"character\":1,\"line\":1},\"start\":{\"character\":0,\"line\":1}}}]}
+> {\"jsonrpc\":\"2.0\",\"method\":\"exit\"}
+"
+}
+
 /// Each refusal: before `initialize`, of bodies that are no request, of a second `initialize`, of a document that isn't
 /// open, of a method and of params, and after `shutdown`. An empty document has no symbols.
 pub fn refusals() -> &'static str {

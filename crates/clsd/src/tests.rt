@@ -1,9 +1,10 @@
-//! Whole sessions against what they must write. In a script a line `> BODY` is a message, and a line `< BODY` a reply.
+//! Whole sessions against what they must write. In a script a line `> BODY` is a message, and a line `< BODY` a reply;
+//! `@ PATH TEXT` is a header, and `! N` a read that fails, numbered from 0.
 
 use crate::outcome::Outcome;
 use crate::scripts;
 use crate::serve::serve_serial;
-use cl_base::{List, Memory, MemoryHeaders};
+use cl_base::{List, Mem, Memory, MemoryHeaders, Path, Read, Text};
 use cl_frames::{MemorySink, MemorySource};
 use cl_history::Entry;
 use cl_rpc::How;
@@ -29,12 +30,13 @@ fn served(
     row: &str,
     source: MemorySource,
     sink: MemorySink,
+    headers: MemoryHeaders,
 ) -> Result<(Outcome, MemorySink), Fail> {
     let mut words = Vec::new(alloc);
     for word in row.split('|') {
         words.push(String::from_str(alloc, word)?)?;
     }
-    let mut headers = MemoryHeaders::new(alloc, List::new(alloc), &[]).map_err(of_memory)?;
+    let mut headers = headers;
     let mut source = source;
     let mut sink = sink;
     let outcome = serve_serial(
@@ -45,6 +47,30 @@ fn served(
         &mut headers,
     );
     Ok((outcome, sink))
+}
+
+/// The headers of a script.
+fn headers_of(alloc: Global, script: &str) -> Result<MemoryHeaders, Fail> {
+    let mut files = List::new(alloc);
+    let mut fails = Vec::new(alloc);
+    for line in script.lines() {
+        if let Some(file) = line.strip_prefix("@ ") {
+            let (path, text) = file.split_once(" ").unwrap_or((file, ""));
+            let file = file_of(alloc, path, text).map_err(of_memory)?;
+            files.push(file).map_err(of_memory)?;
+        } else if let Some(call) = line.strip_prefix("! ") {
+            fails.push(call.parse::<u64>().unwrap_or(0))?;
+        }
+    }
+    let headers = MemoryHeaders::new(alloc, files, fails.as_slice()).map_err(of_memory)?;
+    Ok(headers)
+}
+
+/// A header that is always read with this text.
+fn file_of(alloc: Global, path: &str, text: &str) -> Mem<(Path, List<Read>)> {
+    let mut reads = List::new(alloc);
+    reads.push(Read::Found(Text::new(alloc, text.as_bytes())?))?;
+    Ok((Path::new(alloc, path)?, reads))
 }
 
 fn of_memory(_memory: Memory) -> &'static str {
@@ -66,7 +92,8 @@ fn plays(
     let wanted = frames_of(alloc, script, "< ")?;
     let source = MemorySource::new(alloc, input.as_bytes(), 1, &[]).map_err(of_memory)?;
     let sink = MemorySink::new(alloc, 3, &[]).map_err(of_memory)?;
-    let (outcome, sink) = served(alloc, words, source, sink)?;
+    let headers = headers_of(alloc, script)?;
+    let (outcome, sink) = served(alloc, words, source, sink, headers)?;
     assert_eq!(rt; outcome.status, status, "the status of {script}");
     assert!(rt; sink.held() == wanted.as_bytes(), "the replies of {script}");
     Ok(outcome)
@@ -114,6 +141,27 @@ fn first_session(rt: HostRuntime) -> Result<(), Fail> {
     Ok(())
 }
 
+/// A header is read where it is needed and unknown, and again after a change that is announced.
+#[test]
+fn headers_are_read(rt: HostRuntime) -> Result<(), Fail> {
+    let alloc = rt.alloc();
+    let outcome = plays(&rt, alloc, SERVE, scripts::one_header(), 0)?;
+    let journal = told(alloc, &outcome.journal)?;
+    assert!(rt;
+        journal.as_str()
+            == "in 0; reply 0 at 1 answered; in 1; in 2; load 0; reply 2 at 5 answered; in 3; reply 3 at 7 answered; in 4; ",
+        "{journal}"
+    );
+    let outcome = plays(&rt, alloc, "serve|-I|/p", scripts::header_that_failed(), 1)?;
+    let journal = told(alloc, &outcome.journal)?;
+    assert!(rt;
+        journal.as_str()
+            == "in 0; reply 0 at 1 answered; in 1; in 2; load 0; reply 2 at 5 answered; in 3; reply 3 at 7 answered; in 4; in 5; load 1; reply 5 at 10 answered; in 6; ",
+        "{journal}"
+    );
+    Ok(())
+}
+
 #[test]
 fn refusals_and_edits(rt: HostRuntime) -> Result<(), Fail> {
     let alloc = rt.alloc();
@@ -138,7 +186,7 @@ fn ends_within_a_frame(rt: HostRuntime) -> Result<(), Fail> {
     bytes.extend_from_slice(b"Content-Length: 5\r\n\r\n{}")?;
     let source = MemorySource::new(alloc, bytes.as_slice(), 7, &[]).map_err(of_memory)?;
     let sink = MemorySink::new(alloc, 9, &[]).map_err(of_memory)?;
-    let (outcome, sink) = served(alloc, SERVE, source, sink)?;
+    let (outcome, sink) = served(alloc, SERVE, source, sink, headers_of(alloc, "")?)?;
     assert_eq!(rt; outcome.status, 3);
     assert_eq!(rt; outcome.at, whole);
     assert!(rt; sink.held() == wanted.as_bytes());
@@ -156,7 +204,7 @@ fn each_fault_in_turn(rt: HostRuntime) -> Result<(), Fail> {
         let fails = [call];
         let source = MemorySource::new(alloc, input.as_bytes(), 64, &fails).map_err(of_memory)?;
         let sink = MemorySink::new(alloc, 1000, &[]).map_err(of_memory)?;
-        let (outcome, sink) = served(alloc, SERVE, source, sink)?;
+        let (outcome, sink) = served(alloc, SERVE, source, sink, headers_of(alloc, "")?)?;
         if outcome.status == 0 {
             past_the_last = true;
             assert!(rt; sink.held() == wanted.as_bytes(), "no read failed");
@@ -170,7 +218,7 @@ fn each_fault_in_turn(rt: HostRuntime) -> Result<(), Fail> {
         let fails = [call];
         let source = MemorySource::new(alloc, input.as_bytes(), 64, &[]).map_err(of_memory)?;
         let sink = MemorySink::new(alloc, 50, &fails).map_err(of_memory)?;
-        let (outcome, sink) = served(alloc, SERVE, source, sink)?;
+        let (outcome, sink) = served(alloc, SERVE, source, sink, headers_of(alloc, "")?)?;
         assert_eq!(rt; outcome.status, 5, "a write that fails");
         assert!(rt; wanted.as_bytes().starts_with(sink.held()));
     }
@@ -183,7 +231,7 @@ fn wrong_words(rt: HostRuntime) -> Result<(), Fail> {
     let alloc = rt.alloc();
     let source = MemorySource::new(alloc, b"Content", 1, &[]).map_err(of_memory)?;
     let sink = MemorySink::new(alloc, 1, &[]).map_err(of_memory)?;
-    let (outcome, sink) = served(alloc, "serve|-I|include", source, sink)?;
+    let (outcome, sink) = served(alloc, "serve|-I|include", source, sink, headers_of(alloc, "")?)?;
     assert_eq!(rt; outcome.status, 6);
     assert_eq!(rt; outcome.at, 0);
     assert_eq!(rt; sink.held().len(), 0);
