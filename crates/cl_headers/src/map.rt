@@ -8,6 +8,7 @@ ghost use Rattle.std.specs.BTreeMap.{insert_entry, is_at};
 ghost use Rattle.std.specs.Map.{remove_entry};
 ghost use Rattle.cl_base.specs.declared.headers.Known.TheVariants.{Unknown};
 ghost use Rattle.cl_headers.specs.Headers.{Puts, known_at};
+ghost use Rattle.cl_headers.specs.Maps.{IsHeaderMap};
 
 use crate::tree::Tree;
 use cl_base::{Duplicate, Known, Mem, Path};
@@ -48,6 +49,7 @@ impl HeaderMap {
     /// last, or at all. It takes no memory.
     pub fn get(&self, path: &Path) -> Option<&Known>
         ensures value { option_copied result ≡ known_at self.now path.now }
+        ensures kept { IsHeaderMap self.now }
     {
         self.tree.get(path)
     }

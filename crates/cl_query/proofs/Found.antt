@@ -1,5 +1,5 @@
 -- What was found is the query's answer, or the header that it needs.
-use Rattle.std.proofs.Common.{◌≡◌, ◌≢◌, ℕ, zero, suc, ◌-◌, Bool, true, false, List, [], ◌∷◌, ◌++◌, Option, Some, None, refl, sym, ap, subst, ◌∙◌, length, map, inl, inr}
+use Rattle.std.proofs.Common.{◌≡◌, ◌≢◌, ℕ, zero, suc, ◌-◌, Bool, true, false, List, [], ◌∷◌, ◌++◌, Option, Some, None, refl, sym, ap, subst, ◌∙◌, length, map, inl, inr, ◌<◌, arith}
 use Rattle.std.specs.Prelude.{if◌then◌else◌, slice_get, unwrap_or, MatchOption, ◌⊎◌}
 use Rattle.std.specs.List.{AllByRecursion}
 use Rattle.std.specs.Map.{lookup}
@@ -12,6 +12,7 @@ use Rattle.cl_base.specs.declared.answer.Answer.TheVariants.{Symbols as Listed}
 use Rattle.cl_base.specs.declared.config.Settings.{Settings}
 use Rattle.cl_base.specs.declared.headers.Known.{Known}
 use Rattle.cl_base.specs.declared.headers.Known.TheVariants as state
+use Rattle.cl_base.specs.declared.query.Query.{Query}
 use Rattle.cl_base.specs.declared.query.Query.TheVariants.{Symbols}
 use Rattle.cl_headers.specs.declared.dep.Dep.{Dep as Kept}
 use Rattle.cl_headers.specs.Headers.{Headers, known_at}
@@ -23,7 +24,7 @@ use Rattle.cl_pp.specs.declared.done.PpAnswer.TheVariants as pp
 use Rattle.cl_pp.specs.declared.done.PpDone.{PpDone}
 use Rattle.cl_pp.specs.declared.start.PpState.{PpState}
 use Rattle.cl_pp.specs.Before.{IsFirst, Preprocessed, before_of}
-use Rattle.cl_pp.specs.Preprocessing.{Preprocesses, answer_by}
+use Rattle.cl_pp.specs.Preprocessing.{Before, Preprocesses, answer_by}
 use Rattle.cl_pp.specs.Standing.{is_unknown, wanted, wanted_by}
 use Rattle.cl_pp.proofs.Agreeing.{Agree, from_same}
 use Rattle.cl_pp.proofs.Found.{from_first}
@@ -38,6 +39,9 @@ use Rattle.cl_query.specs.Symbols.{symbols_in}
 use Rattle.cl_query.specs.Finding.{FindsOver, IsFoundBy, dep_in}
 use Rattle.cl_query.specs.Seen.{Agrees, says}
 use Rattle.cl_query.specs.Unknowns.{IsUnknown}
+
+pub only_symbols : (kind : Query) → kind ≡ Symbols
+only_symbols Symbols = refl
 
 -- ---- what was seen
 
@@ -74,6 +78,10 @@ wanted_told known [] (suc n) path h = no_path path _ h
 wanted_told known (p ∷ ps) zero path h = by_known known p path (known p) refl h
 wanted_told known (p ∷ ps) (suc n) path h = wanted_told known ps n path h
 
+some_asked : (known : List ℕ → Known) (paths : List (List ℕ)) (path : List ℕ) → wanted (map (dep_of known) paths) ≡ Some path → 0 < length paths
+some_asked known [] path h = no_path path _ h
+some_asked known (p ∷ ps) path h = omega arith
+
 abbrev needs : PpAnswer → Type 0
 needs (pp.Done done) = ⊥
 needs (pp.Need path) = Unit {0}
@@ -103,7 +111,16 @@ unknown_at headers path m e = none_told (known_at headers path) (lookup_told (is
 
 -- ---- what work on a job finds
 
-module _ (config : Settings) (headers : Headers) (path text : List ℕ) (first : PpState) (asked : List (List ℕ)) (f : IsFirst config.defines first) (m : IsHeaderMap headers) where
+-- the same by other names
+pub made_is : (before : Before) (known other : List ℕ → Known) (folders : List (List ℕ)) (path text bytes : List ℕ) (earlier later asked : List (List ℕ)) (answer : PpAnswer) → other ≡ known → bytes ≡ text → earlier ≡ [] → asked ≡ later
+    → Preprocessed before other folders path bytes earlier later answer → Preprocessed before known folders path text [] asked answer
+made_is before known other folders path text bytes earlier later asked answer k t e a h =
+    subst (λ (ps : List (List ℕ)). Preprocessed before known folders path text [] ps answer) (sym a)
+    (subst (λ (ps : List (List ℕ)). Preprocessed before known folders path text ps later answer) e
+    (subst (λ (x : List ℕ). Preprocessed before known folders path x earlier later answer) t
+    (subst (λ (v : List ℕ → Known). Preprocessed before v folders path bytes earlier later answer) k h)))
+
+module _ (config : Settings) (headers : Headers) (path text : List ℕ) (first : PpState) (asked : List (List ℕ)) (f : IsFirst config.defines first) (m : 0 < length asked → IsHeaderMap headers) where
   abbrev Made : PpAnswer → Type 0
   Made answer = Preprocessed (before_of first) (known_of headers) config.includes path text [] asked answer
 
@@ -117,7 +134,7 @@ module _ (config : Settings) (headers : Headers) (path text : List ℕ) (first :
   needed_unknown : (needed : List ℕ) → Made (pp.Need needed) → IsUnknown headers needed
   needed_unknown needed p =
       let last : wanted p.from.done.deps ≡ Some needed = needed_is needed (wanted p.from.done.deps) p.from.done p.from.is in
-      unknown_at headers needed m (wanted_told (known_of headers) p.noted.asked (length (map (dep_of (known_of headers)) p.noted.asked) - 1) needed (subst (λ (ds : List Kept). wanted ds ≡ Some needed) p.noted.are last))
+      unknown_at headers needed (m (subst (λ (ps : List (List ℕ)). 0 < length ps) (sym p.noted.since) (some_asked (known_of headers) p.noted.asked needed (subst (λ (ds : List Kept). wanted ds ≡ Some needed) p.noted.are last)))) (wanted_told (known_of headers) p.noted.asked (length (map (dep_of (known_of headers)) p.noted.asked) - 1) needed (subst (λ (ds : List Kept). wanted ds ≡ Some needed) p.noted.are last))
 
   pub found : (answer : PpAnswer) (seen : List Dep) (it : Found) → Made answer → seen ≡ map (dep_in headers) asked → IsFoundBy text answer seen it → FindsOver Symbols config headers path text it
   found (pp.Done done) seen (Answered (Listed symbols) deps) p s h =

@@ -95,31 +95,19 @@ pub record Own (tokens : List PpToken) (at k : ℕ) : Type 0 where
   pub own : (span_at tokens i).file ≡ 0
   pub low : at ≤ i
   pub high : i ≤ at + 2
+  pub before : k ≤ at + 1 → i ≤ at + 1
+  pub after : at + 1 ≤ k → at + 1 ≤ i
 
 is_zero : (n : ℕ) → (n == 0) ≡ true → n ≡ 0
 is_zero zero e = refl
 is_zero (suc n) e = grind arith
 
 own_by : (b : Bool) (tokens : List PpToken) (at k : ℕ) → ((span_at tokens k).file == 0) ≡ b → (name_at tokens at).file ≡ 0 → at ≤ k → k ≤ at + 2 → Own tokens at k
-own_by true tokens at k e n l h = record { i = k; is = ap (λ (b : Bool). if b then span_at tokens k else name_at tokens at) e; own = is_zero (span_at tokens k).file e; low = l; high = h }
-own_by false tokens at k e n l h = record { i = at + 1; is = ap (λ (b : Bool). if b then span_at tokens k else name_at tokens at) e; own = n; low = omega arith; high = omega arith }
+own_by true tokens at k e n l h = record { i = k; is = ap (λ (b : Bool). if b then span_at tokens k else name_at tokens at) e; own = is_zero (span_at tokens k).file e; low = l; high = h; before = λ x. x; after = λ x. x }
+own_by false tokens at k e n l h = record { i = at + 1; is = ap (λ (b : Bool). if b then span_at tokens k else name_at tokens at) e; own = n; low = omega arith; high = omega arith; before = λ x. omega arith; after = λ x. omega arith }
 
 pub own_at : (tokens : List PpToken) (at k : ℕ) → (name_at tokens at).file ≡ 0 → at ≤ k → k ≤ at + 2 → Own tokens at k
 own_at tokens at k n l h = own_by ((span_at tokens k).file == 0) tokens at k refl n l h
-
-low_by : (b : Bool) (tokens : List PpToken) (at : ℕ) (e : ((span_at tokens at).file == 0) ≡ b) (n : (name_at tokens at).file ≡ 0) (l : at ≤ at) (h : at ≤ at + 2) → (own_by b tokens at at e n l h).i ≤ at + 1
-low_by true tokens at e n l h = omega arith
-low_by false tokens at e n l h = omega arith
-
-pub own_low : (tokens : List PpToken) (at : ℕ) (n : (name_at tokens at).file ≡ 0) → (own_at tokens at at n (omega arith) (omega arith)).i ≤ at + 1
-own_low tokens at n = low_by ((span_at tokens at).file == 0) tokens at refl n (omega arith) (omega arith)
-
-high_by : (b : Bool) (tokens : List PpToken) (at : ℕ) (e : ((span_at tokens (at + 2)).file == 0) ≡ b) (n : (name_at tokens at).file ≡ 0) (l : at ≤ at + 2) (h : at + 2 ≤ at + 2) → at + 1 ≤ (own_by b tokens at (at + 2) e n l h).i
-high_by true tokens at e n l h = omega arith
-high_by false tokens at e n l h = omega arith
-
-pub own_high : (tokens : List PpToken) (at : ℕ) (n : (name_at tokens at).file ≡ 0) → at + 1 ≤ (own_at tokens at (at + 2) n (omega arith) (omega arith)).i
-own_high tokens at n = high_by ((span_at tokens (at + 2)).file == 0) tokens at refl n (omega arith) (omega arith)
 
 -- all that is left is ahead of a walk that stands at one of its tokens
 pub all_ahead : (tokens : List PpToken) (end i from : ℕ) (walk : Walk) → InOrder nowhere end (in_document tokens) → i ≤ from → (span_at tokens i).file ≡ 0 → IsAt walk (span_at tokens i) → AreAhead tokens from walk

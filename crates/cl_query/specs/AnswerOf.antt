@@ -86,6 +86,6 @@ module _ (one_done : (config : Settings) (known : List ℕ → Known) (path text
   no_fact = λ x y. absurd x
 
   pub answer_or_need_by : (kind : Query) (config : Settings) (headers : Headers) (path text needed : List ℕ) (x : Answer) → AnswerOf kind config headers path text x → NeedsOf kind config headers path text needed → ⊥
-  unfolding AnswerOf, NeedsOf
+  unfolding AnswerOf NeedsOf
   answer_or_need_by Symbols config headers path text needed (Listed xs) a b =
       ∥∥₁_elim a no_fact (λ p. ∥∥₁_elim b no_fact (λ q. subst is_need (sym (one_done config (known_of headers) path text (answer.Done p.done) (answer.Need needed) p.preprocessed q)) tt))

@@ -1,6 +1,7 @@
 //! Finds answers.
 
-ghost use Rattle.std.specs.Prelude.{◌≡◌, ◌<◌, ◌^◌, length, map, IfOk};
+ghost use Rattle.std.specs.Prelude.{◌≡◌, ◌<◌, ◌^◌, length, map, IfOk, OnOk};
+ghost use Rattle.cl_headers.specs.Maps.{IsHeaderMap};
 ghost use Rattle.cl_pp.specs.Places.{IfDone, InOrder, in_document, nowhere};
 ghost use Rattle.cl_query.specs.Finding.{Finds, IsFoundBy, IsListed, dep_in};
 
@@ -73,7 +74,8 @@ fn listed(alloc: Global, text: &[u8], tokens: &[PpToken]) -> Mem<List<Symbol>>
 
 /// What these headers say of paths.
 fn seen_of(alloc: Global, headers: &HeaderMap, paths: &[Path]) -> Mem<List<Dep>>
-    ensures { IfOk result (λ seen. seen ≡ map (dep_in headers.now) paths.now) }
+    ensures seen { IfOk result (λ seen. seen ≡ map (dep_in headers.now) paths.now) }
+    ensures kept { 0 < length paths.now → OnOk result (IsHeaderMap headers.now) }
 {
     let mut seen = List::new(alloc);
     for path in paths {
@@ -84,7 +86,8 @@ fn seen_of(alloc: Global, headers: &HeaderMap, paths: &[Path]) -> Mem<List<Dep>>
 
 /// What these headers say of a path.
 fn dep_in(alloc: Global, headers: &HeaderMap, path: &Path) -> Mem<Dep>
-    ensures { IfOk result (λ dep. dep ≡ dep_in headers.now path.now) }
+    ensures dep { IfOk result (λ dep. dep ≡ dep_in headers.now path.now) }
+    ensures kept { OnOk result (IsHeaderMap headers.now) }
 {
     let known = match headers.get(path) {
         Some(known) => known.duplicate(alloc)?,

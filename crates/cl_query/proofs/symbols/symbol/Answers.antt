@@ -1,7 +1,7 @@
 use Rattle.std.proofs.Common.{◌+◌, ◌≤◌, ◌<◌, length, ap, sym, subst, ◌∙◌, refl, arith}
 use Rattle.cl_base.specs.declared.token.Span.{Span}
 use Rattle.cl_base.specs.Lines.{position_at}
-use Rattle.cl_query.proofs.Places.{ahead_of, all_ahead, own_at, own_high, own_low, place}
+use Rattle.cl_query.proofs.Places.{ahead_of, all_ahead, own_at, place}
 use Rattle.cl_query.specs.Symbols.{own_or, symbol_at}
 use Rattle.cl_query.specs.Walking.{Ahead, IsAt}
 use Rattle.cl_query.proofs.symbols.symbol.Goals as goal
@@ -32,7 +32,7 @@ walked-second-requires-clause-ahead c =
     let o = own_at c.args.tokens.now c.args.at c.args.at c.requires.own (omega arith) (omega arith) in
     let e = c.own_or.ensures ∙ (λ i. own_or (c.span_at-place.ensures i) (c.span_at.ensures i)) ∙ o.is in
     subst (λ (s : Span). Ahead c.walked-first.result s) (sym c.span_at-place.ensures)
-    (ahead_of c.args.tokens.now (length c.args.text.now) o.i (c.args.at + 1) c.walked-first.result c.requires.order (own_low c.args.tokens.now c.args.at c.requires.own) (omega (arith, c.requires.tokens)) o.own c.requires.own
+    (ahead_of c.args.tokens.now (length c.args.text.now) o.i (c.args.at + 1) c.walked-first.result c.requires.order (o.before (omega arith)) (omega (arith, c.requires.tokens)) o.own c.requires.own
     (subst (λ (s : Span). IsAt c.walked-first.result s) e c.walked-first.ensures.at))
 
 pub walked-second-requires-clause-some : goal.walked-second-requires-clause-some
@@ -52,7 +52,7 @@ walked-last-requires-clause-ahead c =
     let h = o.high in
     let e = c.own_or-2.ensures ∙ (λ i. own_or (c.span_at-place.ensures i) (c.span_at-2.ensures i)) ∙ o.is in
     subst (λ (s : Span). Ahead c.walked-second.result s) (sym e)
-    (ahead_of c.args.tokens.now (length c.args.text.now) (c.args.at + 1) o.i c.walked-second.result c.requires.order (own_high c.args.tokens.now c.args.at c.requires.own) (omega (arith, h, c.requires.tokens)) c.requires.own o.own
+    (ahead_of c.args.tokens.now (length c.args.text.now) (c.args.at + 1) o.i c.walked-second.result c.requires.order (o.after (omega arith)) (omega (arith, h, c.requires.tokens)) c.requires.own o.own
     (subst (λ (s : Span). IsAt c.walked-second.result s) c.span_at-place.ensures c.walked-second.ensures.at))
 
 pub walked-last-requires-clause-some : goal.walked-last-requires-clause-some

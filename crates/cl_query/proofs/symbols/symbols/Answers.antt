@@ -2,7 +2,7 @@ use Rattle.std.proofs.Common.{refl, sym, ap, ◌∙◌}
 use Rattle.cl_base.specs.Lines.{position_at}
 use Rattle.cl_query.proofs.Listed.{listed_bad, listed_proper, next_proper, tiled_bad, tiled_first, tiled_proper}
 use Rattle.cl_query.proofs.symbols.symbols.Goals as goal
-use Rattle.cl_query.proofs.symbols.symbols.Goals.{in-Proper+in_ok-add_symbol, in_default}
+use Rattle.cl_query.proofs.symbols.symbols.Goals.{in-Proper+in_ok-walk, in_default}
 
 pub loop-item-init : goal.loop-item-init
 loop-item-init c = record {
@@ -13,12 +13,12 @@ loop-item-init c = record {
 
 pub loop-item-preserved : goal.loop-item-preserved
 loop-item-preserved c = elim c.match-item.branch [
-  | in-Proper+in_ok-add_symbol w ↦ record {
-    stands = rw w.walk-is w.in_ok-add_symbol.ensures.stands;
+  | in-Proper+in_ok-walk w ↦ record {
+    stands = rw w.walk-is w.in_ok-walk.ensures.stands;
     tiled = rw w.walk-is
-        (tiled_proper _ _ _ _ _ _ (next_proper _ _ _ _ _ _ _ c.loop-item.invariant.tiled c.loop-item-test.true w.in-Proper.is) w.in_ok-add_symbol.ensures.ahead);
+        (tiled_proper _ _ _ _ _ _ (next_proper _ _ _ _ _ _ _ c.loop-item.invariant.tiled c.loop-item-test.true w.in-Proper.is) w.in_ok-walk.ensures.ahead);
     listed = rw w.symbols-is
-        (listed_proper _ _ _ _ _ _ _ _ _ c.loop-item.invariant.listed c.loop-item-test.true w.in-Proper.is w.in_ok-add_symbol.ensures.symbols);
+        (listed_proper _ _ _ _ _ _ _ _ _ c.loop-item.invariant.listed c.loop-item-test.true w.in-Proper.is w.in_ok-walk.ensures.symbols);
   }
   | in_default w ↦ record {
     stands = rw w.walk-is c.loop-item.invariant.stands;
