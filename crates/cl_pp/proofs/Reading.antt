@@ -87,8 +87,15 @@ pub line_deps : (file : File) (text : List ℕ) (macros : MacroTable) (answer : 
 line_deps file text macros answer mark whole old new held aim l h =
     let teller = some_teller in
     let w : World = record {
-      file = file.number; depth = 0; path = file.path.now; text = text; begins = get nat_cmp file.told.now; one_token = teller.0;
-      start = record { macros = λ name. None; numbers = λ name. None; events = 0 }; known = λ path. Unknown; folders = [];
+      file = file.number;
+      depth = 0;
+      path = file.path.now;
+      text = text;
+      begins = get nat_cmp file.told.now;
+      one_token = teller.0;
+      start = record { macros = λ name. None; numbers = λ name. None; events = 0 };
+      known = λ path. Unknown;
+      folders = [];
     } in
     comes_deps file.number (rules_in w (lookup macros)) (number_of macros) whole old (get nat_cmp file.told.now) (lookup macros) mark.part answer held aim new
     (h w (record { number = refl; path = refl; lines = l; begins = λ at. refl; tells = teller.1 }) refl)

@@ -184,7 +184,6 @@ one_teller f g tf tg text = by_result (g text) (tg text)
     by_result None n = tells_none f text tf n
     by_result (Some k) h = tells_some f text k tf h
 
-
 pub one_from : (before : Before) (known : List ℕ → Known) (folders : List (List ℕ)) (path text : List ℕ) (x y : PpAnswer) → PreprocessesFrom before known folders path text x → PreprocessesFrom before known folders path text y → x ≡ y
 one_from before known folders path text x y a b =
     let o : b.one_token ≡ a.one_token = λ i. λ (s : List ℕ). one_teller b.one_token a.one_token b.tells a.tells s i in

@@ -69,7 +69,12 @@ pub(crate) fn taken(
 }
 
 /// Goes over the line of a branch that may not be taken, and answers whether it is an `#else`.
-pub(crate) fn passed_by(made: &mut Made, file: u32, condition: Condition, line: &[Token]) -> Mem<bool>
+pub(crate) fn passed_by(
+    made: &mut Made,
+    file: u32,
+    condition: Condition,
+    line: &[Token],
+) -> Mem<bool>
     requires { Sees made.now }
     ensures done { IfOk result (λ held. passed_by file condition line.now made.old.done ≡ Gives held made.new.done) }
     ensures events { OnOk result (made.new.done.events ≡ made.old.done.events) }
@@ -132,7 +137,13 @@ fn ask(alloc: Global, file: &File, table: &MacroTable, made: &mut Made, line: &[
     let reach = Reach::Directive(made.done.tokens.len() as u32);
     let tokens = replaced(alloc, file, table, made, reach, tokens.as_slice())?;
     let value = eval_if(alloc, tokens.as_slice())?;
-    bad_if(&mut made.done.faults, file.number, value, tokens.as_slice(), line)?;
+    bad_if(
+        &mut made.done.faults,
+        file.number,
+        value,
+        tokens.as_slice(),
+        line,
+    )?;
     Ok(is_true(value))
 }
 
@@ -147,7 +158,13 @@ fn is_true(value: IfValue) -> bool
 }
 
 /// Adds fault 15, if a condition is at fault.
-fn bad_if(faults: &mut List<Diag>, file: u32, value: IfValue, made: &[PpToken], line: &[Token]) -> Mem<()>
+fn bad_if(
+    faults: &mut List<Diag>,
+    file: u32,
+    value: IfValue,
+    made: &[PpToken],
+    line: &[Token],
+) -> Mem<()>
     ensures { OnOk result (faults.new ≡ faults.old ++ bad_if file value made.now line.now) }
 {
     match value {

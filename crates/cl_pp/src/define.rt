@@ -44,7 +44,13 @@ pub(crate) fn defining(
 }
 
 /// Goes over the tokens behind `define`.
-fn define(alloc: Global, file: u32, table: &mut MacroTable, made: &mut Made, tokens: &[Token]) -> Mem<()>
+fn define(
+    alloc: Global,
+    file: u32,
+    table: &mut MacroTable,
+    made: &mut Made,
+    tokens: &[Token],
+) -> Mem<()>
     requires { Sees made.now }
     ensures done { (w : World) → OnOk result (IsDefinition file (rules_in w (lookup table.old)) tokens.now made.old.done made.new.done) }
     ensures keeps { (start : Start) → Keeps start table.old made.old.done → OnOk result (Keeps start table.new made.new.done) }
@@ -79,7 +85,13 @@ fn invalid(faults: &mut List<Diag>, file: u32, tokens: &[Token]) -> Mem<()>
 }
 
 /// Adds fault 16, at a definition's name.
-fn redefined(alloc: Global, faults: &mut List<Diag>, file: u32, name: &Name, tokens: &[Token]) -> Mem<()>
+fn redefined(
+    alloc: Global,
+    faults: &mut List<Diag>,
+    file: u32,
+    name: &Name,
+    tokens: &[Token],
+) -> Mem<()>
     ensures { OnOk result (faults.new ≡ faults.old ++ redefined file name.now tokens.now) }
 {
     let name = name.duplicate(alloc)?;

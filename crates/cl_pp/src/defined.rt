@@ -11,7 +11,12 @@ use cl_macro::MacroTable;
 use std::alloc::Global;
 
 /// The tokens of a condition, where each `defined NAME` and `defined ( NAME )` is 1 or 0 (N1570 6.10.1p1).
-pub(crate) fn decided(alloc: Global, file: u32, table: &MacroTable, tokens: &[Token]) -> Mem<List<PpToken>>
+pub(crate) fn decided(
+    alloc: Global,
+    file: u32,
+    table: &MacroTable,
+    tokens: &[Token],
+) -> Mem<List<PpToken>>
     ensures { IfOk result (λ all. all ≡ decided file (lookup table.now) tokens.now) }
 {
     let mut all = List::new(alloc);

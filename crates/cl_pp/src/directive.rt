@@ -144,7 +144,13 @@ fn undefining(
 }
 
 /// Takes the token's macro away, unless its name may not be undefined.
-fn undefined(alloc: Global, file: u32, table: &mut MacroTable, made: &mut Made, token: &Token) -> Mem<()>
+fn undefined(
+    alloc: Global,
+    file: u32,
+    table: &mut MacroTable,
+    made: &mut Made,
+    token: &Token,
+) -> Mem<()>
     requires { Sees made.now }
     ensures done { OnOk result (made.new.done ≡ undefined file token.now made.old.done) }
     ensures keeps { (start : Start) → Keeps start table.old made.old.done → OnOk result (Keeps start table.new made.new.done) }
@@ -237,7 +243,13 @@ fn checked(
     let reach = Reach::Directive(made.done.tokens.len() as u32);
     let tokens = replaced(alloc, file, table, made, reach, tokens)?;
     let place = misfit(tokens.as_slice());
-    bad_line(&mut made.done.faults, file.number, place, tokens.as_slice(), line)?;
+    bad_line(
+        &mut made.done.faults,
+        file.number,
+        place,
+        tokens.as_slice(),
+        line,
+    )?;
     Ok(())
 }
 

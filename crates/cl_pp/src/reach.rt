@@ -202,12 +202,7 @@ fn look<V: HeaderView>(
 }
 
 /// What is to be entered, where the search comes to this.
-fn arrive(
-    alloc: Global,
-    made: &mut Made,
-    target: &Target,
-    resolved: Resolved,
-) -> Mem<Option<Found>>
+fn arrive(alloc: Global, made: &mut Made, target: &Target, resolved: Resolved) -> Mem<Option<Found>>
     requires { Sees made.now }
     ensures done { IfOk result (λ found. Arrives target.now resolved made.old.done made.new.done found) }
     ensures deps { OnOk result (made.new.done.deps ≡ made.old.done.deps) }

@@ -41,7 +41,12 @@ fn is_free_text(line: &[Token]) -> bool
 }
 
 /// Adds the faults of tokens.
-fn strays(faults: &mut List<Diag>, file: u32, told: &BTreeMap<u32, Fault>, line: &[Token]) -> Mem<()>
+fn strays(
+    faults: &mut List<Diag>,
+    file: u32,
+    told: &BTreeMap<u32, Fault>,
+    line: &[Token],
+) -> Mem<()>
     ensures { OnOk result (faults.new ≡ faults.old ++ strays file (get nat_cmp told.now) line.now) }
 {
     for token in line {

@@ -21,7 +21,15 @@ pub(crate) fn tokens_and_asked(alloc: Global, given: &str) -> Mem<Vec<u8>> {
     let path = Path::new(alloc, "/m.c")?;
     let mut view = MapView::new(alloc, &map);
     let start = PpState::start(alloc, &config)?;
-    let answer = preprocess(alloc, start, &EmptyBase, &path, text.as_slice(), &config, &mut view)?;
+    let answer = preprocess(
+        alloc,
+        start,
+        &EmptyBase,
+        &path,
+        text.as_slice(),
+        &config,
+        &mut view,
+    )?;
     let mut out = Vec::new(alloc);
     match &answer {
         PpAnswer::Need(path) => {

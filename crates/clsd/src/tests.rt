@@ -156,7 +156,7 @@ fn headers_are_read(rt: HostRuntime) -> Result<(), Fail> {
     let journal = told(alloc, &outcome.journal)?;
     assert!(rt;
         journal.as_str()
-            == "in 0; reply 0 at 1 answered; in 1; in 2; load 0; reply 2 at 5 answered; in 3; reply 3 at 7 answered; in 4; in 5; load 1; reply 5 at 10 answered; in 6; ",
+            == "in 0; reply 0 at 1 answered; in 1; in 2; load 0; reply 2 at 5 answered; in 3; reply 3 at 7 answered; in 4; in 5; load 1; reply 5 at 11 answered; in 6; ",
         "{journal}"
     );
     Ok(())
@@ -231,7 +231,13 @@ fn wrong_words(rt: HostRuntime) -> Result<(), Fail> {
     let alloc = rt.alloc();
     let source = MemorySource::new(alloc, b"Content", 1, &[]).map_err(of_memory)?;
     let sink = MemorySink::new(alloc, 1, &[]).map_err(of_memory)?;
-    let (outcome, sink) = served(alloc, "serve|-I|include", source, sink, headers_of(alloc, "")?)?;
+    let (outcome, sink) = served(
+        alloc,
+        "serve|-I|include",
+        source,
+        sink,
+        headers_of(alloc, "")?,
+    )?;
     assert_eq!(rt; outcome.status, 6);
     assert_eq!(rt; outcome.at, 0);
     assert_eq!(rt; sink.held().len(), 0);

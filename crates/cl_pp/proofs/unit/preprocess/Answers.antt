@@ -38,7 +38,7 @@ returns-clause-done g c =
       faults = c.new-6.ensures i;
     } in
     let reads = c.in_ok-read.ensures.done w (record { file = refl; depth = refl; path = refl; text = refl; known_is = refl; folders = refl; tells = teller.1 })
-        (keeps_first before.start c.args.start.macros first c.new-2.ensures (λ name. refl) (λ name. refl) (sym c.requires)) in
+    (keeps_first before.start c.args.start.macros first c.new-2.ensures (λ name. refl) (λ name. refl) (sym c.requires)) in
     record {
       from = record {
         one_token = teller.0;
