@@ -1,7 +1,7 @@
 //! Each alternative of N1570 A.2.1 and A.2.2, with and without each of its optional parts, as typed in from the standard; of a list
 //! rule, one member. Written by tools/grammar/standard.py. The rules for specifiers stand apart: here they are one node.
 
-pub static LINES: [&[u8]; 202] = [
+static FIRST: [&[u8]; 42] = [
     b"AbstractDeclarator 1: Pointer DirectAbstractDeclarator",
     b"AbstractDeclarator unit: DirectAbstractDeclarator",
     b"AbstractDeclarator unit: Pointer",
@@ -44,6 +44,13 @@ pub static LINES: [&[u8]; 202] = [
     b"DirectAbstractDeclarator 0: LeftParen AbstractDeclarator RightParen",
     b"DirectAbstractDeclarator 1: DirectAbstractDeclarator LeftBracket AssignmentExpression RightBracket",
     b"DirectAbstractDeclarator 1: DirectAbstractDeclarator LeftBracket RightBracket",
+];
+
+pub fn first() -> &'static [&'static [u8]] {
+    &FIRST
+}
+
+static SECOND: [&[u8]; 42] = [
     b"DirectAbstractDeclarator 1: DirectAbstractDeclarator LeftBracket TypeQualifierList AssignmentExpression RightBracket",
     b"DirectAbstractDeclarator 1: DirectAbstractDeclarator LeftBracket TypeQualifierList RightBracket",
     b"DirectAbstractDeclarator 1: LeftBracket AssignmentExpression RightBracket",
@@ -86,6 +93,13 @@ pub static LINES: [&[u8]; 202] = [
     b"EnumeratorList 0: Enumerator",
     b"EqualityExpression 1: EqualityExpression EqualEqual RelationalExpression",
     b"EqualityExpression 2: EqualityExpression BangEqual RelationalExpression",
+];
+
+pub fn second() -> &'static [&'static [u8]] {
+    &SECOND
+}
+
+static THIRD: [&[u8]; 42] = [
     b"EqualityExpression unit: RelationalExpression",
     b"ExclusiveOrExpression 1: ExclusiveOrExpression Caret AndExpression",
     b"ExclusiveOrExpression unit: AndExpression",
@@ -128,6 +142,13 @@ pub static LINES: [&[u8]; 202] = [
     b"Pointer 1: Star TypeQualifierList Pointer",
     b"PostfixExpression 1: PostfixExpression LeftBracket Expression RightBracket",
     b"PostfixExpression 2: PostfixExpression LeftParen ArgumentExpressionList RightParen",
+];
+
+pub fn third() -> &'static [&'static [u8]] {
+    &THIRD
+}
+
+static FOURTH: [&[u8]; 42] = [
     b"PostfixExpression 2: PostfixExpression LeftParen RightParen",
     b"PostfixExpression 3: PostfixExpression Dot Ident",
     b"PostfixExpression 4: PostfixExpression Arrow Ident",
@@ -170,6 +191,13 @@ pub static LINES: [&[u8]; 202] = [
     b"StructOrUnionSpecifier 0: StructOrUnion LeftBrace StructDeclarationList RightBrace",
     b"StructOrUnionSpecifier 1: StructOrUnion Ident",
     b"TypeName 0: SpecifierQualifierList AbstractDeclarator",
+];
+
+pub fn fourth() -> &'static [&'static [u8]] {
+    &FOURTH
+}
+
+static FIFTH: [&[u8]; 34] = [
     b"TypeName unit: SpecifierQualifierList",
     b"TypeQualifier 0: Const",
     b"TypeQualifier 1: Restrict",
@@ -205,3 +233,7 @@ pub static LINES: [&[u8]; 202] = [
     b"UnaryOperator 4: Tilde",
     b"UnaryOperator 5: Bang",
 ];
+
+pub fn fifth() -> &'static [&'static [u8]] {
+    &FIFTH
+}
