@@ -9,27 +9,30 @@ use std::str;
 
 /// What the last of these parts comes to as a text at `/m.c`, where the parts before it tell what is known of headers.
 pub(crate) fn tokens_and_asked(alloc: Global, given: &str) -> Mem<Vec<u8>> {
+    let (headers, text) = given.rsplit_once(" | ").unwrap_or(("", given));
+    let text = unescaped(alloc, text)?;
+    let map = known_of(alloc, headers)?;
+    let out = shown(alloc, &map, text.as_slice())?;
+    Ok(out)
+}
+
+/// What these parts tell of headers.
+fn known_of(alloc: Global, headers: &str) -> Mem<HeaderMap> {
     let mut map = HeaderMap::new(alloc)?;
-    let mut text = Vec::new(alloc);
-    for part in given.split(" | ") {
-        let bytes = unescaped(alloc, part)?;
-        let before = text;
-        text = bytes;
-        put(alloc, &mut map, before.as_slice())?;
+    for part in headers.split(" | ") {
+        let part = unescaped(alloc, part)?;
+        put(alloc, &mut map, part.as_slice())?;
     }
+    Ok(map)
+}
+
+/// What a text comes to over what is known of headers, and the headers that were asked for.
+fn shown(alloc: Global, map: &HeaderMap, text: &[u8]) -> Mem<Vec<u8>> {
     let config = folders(alloc)?;
     let path = Path::new(alloc, "/m.c")?;
-    let mut view = MapView::new(alloc, &map);
+    let mut view = MapView::new(alloc, map);
     let start = PpState::start(alloc, &config)?;
-    let answer = preprocess(
-        alloc,
-        start,
-        &EmptyBase,
-        &path,
-        text.as_slice(),
-        &config,
-        &mut view,
-    )?;
+    let answer = preprocess(alloc, start, &EmptyBase, &path, text, &config, &mut view)?;
     let mut out = Vec::new(alloc);
     match &answer {
         PpAnswer::Need(path) => {
