@@ -1,6 +1,6 @@
-//! A table of cases. A line `[section]` begins a section, an empty line and one that begins with `;` say nothing, and every
-//! other line is a case: what is given, ` => `, and what it comes to. What is given may have several parts, with ` | ` between
-//! them.
+//! A table of cases. A line with ` => ` is a case: what is given, and behind the arrow what it comes to. Of the other lines
+//! `[section]` begins a section, `#define` defines a macro, and an empty line and one that begins with `;` say nothing. What
+//! is given may have several parts, with ` | ` between them.
 
 use crate::escape::{escaped, unescaped};
 use crate::{conditions, definitions, faults, includes, macros, sections, texts, tokens};
@@ -76,6 +76,9 @@ impl Table {
         }
         if let Section::Whole = self.section {
             return self.whole_line(alloc, line);
+        }
+        if line.contains(" => ") {
+            return self.case(alloc, line);
         }
         if line.is_empty() || line.starts_with(";") {
             return same(alloc, line);
