@@ -18,8 +18,8 @@ use Rattle.cl_core.specs.declared.decision.Decision.{Decision}
 use Rattle.cl_core.specs.declared.event.Effect.{Effect}
 use Rattle.cl_core.specs.declared.event.Effect.TheVariants as effect
 use Rattle.cl_core.specs.declared.waiting.Waiting.{Waiting}
-use Rattle.cl_core.specs.declared.waiting.Which.{Which}
-use Rattle.cl_core.specs.declared.waiting.Which.TheVariants as which
+use Rattle.cl_pending.specs.declared.waits.Which.{Which}
+use Rattle.cl_pending.specs.declared.waits.Which.TheVariants as which
 use Rattle.cl_core.specs.Waiting.{has_id, is_meant}
 use Rattle.cl_core.specs.Numbered.{IsNumbered}
 use Rattle.cl_core.specs.Deciding.{texts_of, core_refusal, ends_by, entry_of, meant_by, others_than, replies_of, started_by, started_if, waiting_for}

@@ -5,7 +5,7 @@ use Rattle.std.specs.Prelude.{Option, Some, None, is_some, not, reverse, â—Œ&&â—
 use Rattle.cl_base.specs.declared.headers.Read.{Read}
 use Rattle.cl_headers.specs.Headers.{Headers}
 use Rattle.cl_query.specs.declared.job.Job.{Job}
-use Rattle.cl_query.specs.declared.seen.Dep.{Dep}
+use Rattle.cl_headers.specs.declared.dep.Dep.{Dep}
 use Rattle.cl_rpc.specs.declared.out.How.{How}
 use Rattle.cl_rpc.specs.declared.out.Out.{Out}
 use Rattle.cl_rpc.specs.Classes.{Class, exits, class_of}
@@ -23,7 +23,8 @@ use Rattle.cl_core.specs.declared.waiting.Waiting.{Waiting}
 use Rattle.cl_core.specs.Waiting.{number_of}
 use Rattle.cl_core.specs.Deciding.{replies_of, started_by}
 use Rattle.cl_history.specs.Refusals.{is_exit}
-use Rattle.cl_core.specs.Steps.{Takes, Completes, StartsAgain, Awaits, Lacks, Loads, IsLost, Stops, Steps, StepsOn, begun_again, finish_if, first_ending, hears, status_of, ending_after, left_after, pending_after, is_nil, is_accepted, start_jobs, awaited_message}
+use Rattle.cl_core.specs.Steps.{Takes, Completes, StartsAgain, Awaits, Lacks, Loads, IsLost, Stops, Steps, StepsOn, begun_again, finish_if, first_ending, hears, status_of, ending_after, left_after, pending_after, is_accepted, start_jobs, awaited_message}
+use Rattle.cl_pending.specs.Meant.{is_nil}
 use Rattle.cl_core.specs.Standing.{IsIdle, StandsFor, finish_of, journal_of}
 use Rattle.cl_core.specs.Runs.{Put, TakesPut, Runs}
 use Rattle.cl_core.specs.Ends.{status_by, status_by_class, status_of_put, earlier_or, first_status, over, EndsAs, EndsOnce}

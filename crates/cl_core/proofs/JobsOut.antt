@@ -7,7 +7,7 @@ use Rattle.std.specs.List.{AllByRecursion}
 use Rattle.cl_base.specs.declared.headers.Read.{Read}
 use Rattle.cl_headers.specs.Headers.{Headers}
 use Rattle.cl_query.specs.declared.job.Job.{Job}
-use Rattle.cl_query.specs.declared.seen.Dep.{Dep}
+use Rattle.cl_headers.specs.declared.dep.Dep.{Dep}
 use Rattle.cl_query.specs.Over.{IsOver}
 use Rattle.cl_rpc.specs.declared.out.How.{How}
 use Rattle.cl_rpc.specs.declared.out.Out.{Out}
@@ -28,7 +28,7 @@ use Rattle.cl_core.specs.Runs.{Put, Runs}
 use Rattle.cl_core.specs.Jobs.{IsOut, IsEndOf, HasOneOut, LedToRead, EachHasOneOut}
 use Rattle.cl_core.proofs.Asking.{all_left}
 use Rattle.cl_core.proofs.Waits.{one_of}
-use Rattle.cl_core.proofs.Indexed.{the_one}
+use Rattle.cl_core.proofs.Numbers.{the_one}
 use Rattle.cl_core.proofs.Turning.{job_of, jobs_by, few_started}
 use Rattle.cl_core.proofs.Started.{no_jobs, no_jobs_at_end}
 use Rattle.cl_core.proofs.JobStands.{by_known}

@@ -6,7 +6,7 @@ use Rattle.std.proofs.lemmas.Bool.{false≢true}
 use Rattle.cl_base.specs.declared.answer.Answer.{Answer}
 use Rattle.cl_base.specs.declared.headers.Read.{Read}
 use Rattle.cl_query.specs.declared.job.Job.{Job}
-use Rattle.cl_query.specs.declared.seen.Dep.{Dep}
+use Rattle.cl_headers.specs.declared.dep.Dep.{Dep}
 use Rattle.cl_query.specs.AnswerOf.{AnswerOf, NeedsOf}
 use Rattle.cl_query.specs.Seen.{NeedRests, Rests}
 use Rattle.cl_query.specs.Over.{IsOver}

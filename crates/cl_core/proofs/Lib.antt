@@ -1,6 +1,5 @@
 pub mod Waits
-pub mod Putting
-pub mod Indexed
+pub mod Numbers
 pub mod Ended
 pub mod Onto
 pub mod Dues
@@ -9,7 +8,6 @@ pub mod StillPending
 pub mod Asking
 pub mod MessageStands
 pub mod JobStands
-pub mod Again
 pub mod Writing
 pub mod Kept
 pub mod Settling

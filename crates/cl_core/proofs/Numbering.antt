@@ -11,7 +11,7 @@ use Rattle.cl_rpc.specs.declared.out.How.{How}
 use Rattle.cl_rpc.specs.declared.out.Out.{Out}
 use Rattle.cl_rpc.specs.Classes.{Class, queries, class_of}
 use Rattle.cl_query.specs.declared.job.Job.{Job}
-use Rattle.cl_query.specs.declared.seen.Dep.{Dep}
+use Rattle.cl_headers.specs.declared.dep.Dep.{Dep}
 use Rattle.cl_core.specs.declared.core_state.State.{State}
 use Rattle.cl_core.specs.declared.event.Event.{Event}
 use Rattle.cl_core.specs.declared.event.Event.TheVariants as event

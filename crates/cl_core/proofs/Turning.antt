@@ -11,7 +11,7 @@ use Rattle.cl_base.specs.declared.headers.Read.{Read}
 use Rattle.cl_store.specs.declared.docs.Doc.{Doc}
 use Rattle.cl_store.specs.Docs.{doc_at}
 use Rattle.cl_query.specs.declared.job.Job.{Job}
-use Rattle.cl_query.specs.declared.seen.Dep.{Dep}
+use Rattle.cl_headers.specs.declared.dep.Dep.{Dep}
 use Rattle.cl_query.specs.Seen.{Agrees}
 use Rattle.cl_query.specs.Over.{IsOver, work_of}
 use Rattle.cl_rpc.specs.declared.id.Id.{Id}
@@ -33,7 +33,8 @@ use Rattle.cl_core.specs.declared.event.Effect.{Effect}
 use Rattle.cl_core.specs.declared.event.Effect.TheVariants as effect
 use Rattle.cl_core.specs.declared.waiting.Waiting.{Waiting}
 use Rattle.cl_core.specs.Deciding.{core_refusal, ends_by, others_than, replies_of, started_by, started_if, waiting_for}
-use Rattle.cl_core.specs.Steps.{Takes, Completes, Stops, StartsAgain, Awaits, Lacks, Loads, IsLost, Steps, StepsOn, hears, awaited_message, again, begun_again, start_jobs, finish, finish_if, finishes, is_nil, is_accepted, first_ending, status_of, ending_after, left_after, pending_after}
+use Rattle.cl_core.specs.Steps.{Takes, Completes, Stops, StartsAgain, Awaits, Lacks, Loads, IsLost, Steps, StepsOn, hears, awaited_message, again, begun_again, start_jobs, finish, finish_if, finishes, is_accepted, first_ending, status_of, ending_after, left_after, pending_after}
+use Rattle.cl_pending.specs.Meant.{is_nil}
 use Rattle.cl_core.specs.Standing.{jobs_of, loads_of, finish_of, IsIdle, WorksOn, AwaitsRead, TakesTurn, EndsTurn, Restarts, ReadsFirst, EndsSession, Turns, messages_taken, reads_taken}
 use Rattle.cl_core.proofs.JobStands.{by_known}
 

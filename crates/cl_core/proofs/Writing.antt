@@ -13,7 +13,7 @@ use Rattle.cl_rpc.specs.declared.out.Reply.{Reply}
 use Rattle.cl_rpc.specs.Replies.{reply_frame}
 use Rattle.cl_rpc.specs.Classes.{Class, initialises, shuts_down, cancels}
 use Rattle.cl_query.specs.declared.job.Job.{Job}
-use Rattle.cl_query.specs.declared.seen.Dep.{Dep}
+use Rattle.cl_headers.specs.declared.dep.Dep.{Dep}
 use Rattle.cl_query.specs.AnswerOf.{AnswerOf}
 use Rattle.cl_query.specs.Over.{IsOver}
 use Rattle.cl_history.specs.declared.entry.Entry.{Entry}
@@ -31,7 +31,8 @@ use Rattle.cl_core.specs.declared.event.Ending.{Ending}
 use Rattle.cl_core.specs.declared.waiting.Waiting.{Waiting}
 use Rattle.cl_core.specs.Waiting.{class_of_waiting}
 use Rattle.cl_core.specs.Deciding.{code_of, core_refusal, ended, ends_by, entry_of, meant_by, replies_by, replies_if_accepted, replies_of, reply_by, started_by}
-use Rattle.cl_core.specs.Steps.{Takes, Replies, Completes, Stops, StartsAgain, Awaits, Lacks, Loads, IsLost, start_jobs, finish, finish_if, is_nil, ending_after, pending_after, left_after, first_ending, status_of}
+use Rattle.cl_core.specs.Steps.{Takes, Replies, Completes, Stops, StartsAgain, Awaits, Lacks, Loads, IsLost, start_jobs, finish, finish_if, ending_after, pending_after, left_after, first_ending, status_of}
+use Rattle.cl_pending.specs.Meant.{is_nil}
 use Rattle.cl_core.specs.Standing.{Asks, StandsFor, WritesOn, frames_of, past_of}
 use Rattle.cl_core.proofs.Onto.{onto}
 use Rattle.cl_core.proofs.Dues.{same_refusal}

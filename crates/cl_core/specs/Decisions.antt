@@ -16,8 +16,8 @@ use Rattle.cl_core.specs.declared.decision.Work.TheVariants as work
 use Rattle.cl_core.specs.declared.event.Effect.{Effect}
 use Rattle.cl_core.specs.declared.event.Effect.TheVariants as effect
 use Rattle.cl_core.specs.declared.waiting.Waiting.{Waiting}
-use Rattle.cl_core.specs.declared.waiting.Which.{Which}
-use Rattle.cl_core.specs.declared.waiting.Which.TheVariants as which
+use Rattle.cl_pending.specs.declared.waits.Which.{Which}
+use Rattle.cl_pending.specs.declared.waits.Which.TheVariants as which
 use Rattle.cl_core.specs.Deciding.{texts_of, versions_of, ends_by, known_after, others_than, replies_of, started_by, started_if}
 use Rattle.cl_core.specs.Steps.{ending_after, entries_of, finish, finishes, is_accepted, start_jobs}
 

@@ -9,7 +9,7 @@ use Rattle.cl_core.specs.declared.event.Event.TheVariants as event
 use Rattle.cl_core.specs.declared.event.Effect.{Effect}
 use Rattle.cl_core.specs.declared.event.Effect.TheVariants as effect
 use Rattle.cl_core.specs.Standing.{finish_of}
-use Rattle.cl_core.specs.Steps.{is_nil}
+use Rattle.cl_pending.specs.Meant.{is_nil}
 use Rattle.cl_core.specs.Runs.{Put}
 
 -- the status that an event gives: `exit` after an accepted `shutdown` and without one, and each end of the input

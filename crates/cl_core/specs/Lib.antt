@@ -4,7 +4,6 @@ pub mod Steps
 pub mod Decisions
 pub mod Standing
 pub mod Runs
-pub mod Indexes
 pub mod Numbered
 pub mod Jobs
 pub mod Ends

@@ -10,7 +10,7 @@ use Rattle.cl_rpc.specs.declared.out.Out.{Out}
 use Rattle.cl_rpc.specs.declared.out.Out.TheVariants as out
 use Rattle.cl_rpc.specs.Classes.{Class, class_of}
 use Rattle.cl_query.specs.declared.job.Job.{Job}
-use Rattle.cl_query.specs.declared.seen.Dep.{Dep}
+use Rattle.cl_headers.specs.declared.dep.Dep.{Dep}
 use Rattle.cl_query.specs.Over.{IsOver}
 use Rattle.cl_history.specs.declared.entry.Entry.{Entry}
 use Rattle.cl_history.specs.declared.entry.Entry.TheVariants as entry
@@ -27,6 +27,7 @@ use Rattle.cl_core.specs.declared.event.Ending.TheVariants as ending
 use Rattle.cl_core.specs.declared.event.Effect.{Effect}
 use Rattle.cl_core.specs.declared.event.Effect.TheVariants as effect
 use Rattle.cl_core.specs.declared.waiting.Waiting.{Waiting}
+use Rattle.cl_pending.specs.Meant.{is_nil}
 use Rattle.cl_core.specs.Deciding.{texts_of, versions_of, core_refusal, entry_of, known_after, left_by, reply_by, replies_of, started_by}
 
 -- the entries of the replies among the effects
@@ -36,10 +37,6 @@ entries_of (effect.Reply r ∷ es) = entry_of r ∷ entries_of es
 entries_of (effect.StartJob job ∷ es) = entries_of es
 entries_of (effect.Load path ∷ es) = entries_of es
 entries_of (effect.Finish status ∷ es) = entries_of es
-
-abbrev pub is_nil : {X : Type 0} → List X → Bool
-is_nil [] = true
-is_nil (x ∷ xs) = false
 
 -- ---- the end
 

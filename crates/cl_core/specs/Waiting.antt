@@ -3,9 +3,14 @@ use Rattle.std.specs.Prelude.{ℕ, nat_eq, Bool}
 use Rattle.std.specs.Str.{bytes_eq}
 use Rattle.cl_rpc.specs.declared.id.Id.{Id}
 use Rattle.cl_rpc.specs.Classes.{Class, queries, same_id}
+use Rattle.cl_pending.specs.Keys.{Key}
 use Rattle.cl_core.specs.declared.waiting.Waiting.{Waiting}
-use Rattle.cl_core.specs.declared.waiting.Which.{Which}
-use Rattle.cl_core.specs.declared.waiting.Which.TheVariants as which
+use Rattle.cl_pending.specs.declared.waits.Which.{Which}
+use Rattle.cl_pending.specs.declared.waits.Which.TheVariants as which
+
+-- what a request is found by
+abbrev pub key_of : Waiting → Key
+key_of w = record { id = w.id; message = w.job.message; path = w.job.path }
 
 abbrev pub has_id : Id → Waiting → Bool
 has_id i w = same_id i w.id

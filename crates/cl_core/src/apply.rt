@@ -6,15 +6,16 @@ ghost use Rattle.cl_core.specs.declared.waiting.Waiting.{Waiting};
 ghost use Rattle.cl_core.specs.Waiting.{has_id};
 ghost use Rattle.cl_core.specs.Deciding.{others_than};
 ghost use Rattle.cl_core.specs.Decisions.{Applies, Edits, IsEnding, end_behind, started_in};
-ghost use Rattle.cl_core.specs.Steps.{is_nil, start_jobs};
+ghost use Rattle.cl_core.specs.Steps.{start_jobs};
+ghost use Rattle.cl_pending.specs.Meant.{is_nil};
 
 use crate::core_state::State;
 use crate::decision::{Decision, Work};
 use crate::event::Effect;
 use crate::note::{entries_of, finishes, with_finish};
-use crate::pending::Pending;
-use crate::waiting::Which;
+use crate::waiting::Waiting;
 use cl_base::{Duplicate, List, Mem, Memory};
+use cl_pending::{Pending, Which};
 use cl_store::Docs;
 use std::alloc::Global;
 
@@ -64,7 +65,7 @@ pub fn apply(alloc: Global, core: &mut State, decision: Decision<'_>) -> Mem<Lis
 }
 
 /// Whether no request waits where these are ended and this work is begun.
-fn none_left(pending: &Pending, ends: Option<Which<'_>>, work: &Work<'_>) -> bool
+fn none_left(pending: &Pending<Waiting>, ends: Option<Which<'_>>, work: &Work<'_>) -> bool
     requires apart { (started_in work.now ≡ []) ⊎ (end_behind ends ≡ None) }
     requires ending { IsEnding ends }
     ensures { result ≡ is_nil (others_than (end_behind ends.entry) pending.now ++ started_in work.now) }
@@ -100,7 +101,7 @@ fn jobs_after(jobs: u64, work: &Work<'_>) -> Option<u64>
 }
 
 /// Begins the work of a message, or changes nothing.
-fn begin(alloc: Global, docs: &mut Docs, pending: &mut Pending, work: Work<'_>) -> Mem<()>
+fn begin(alloc: Global, docs: &mut Docs, pending: &mut Pending<Waiting>, work: Work<'_>) -> Mem<()>
     requires free { AllByRecursion (λ (waiting : Waiting). list_any (has_id waiting.id) pending.old ≡ false) (started_in work) }
     requires above { AllByRecursion (λ (waiting : Waiting). AllByRecursion (λ (other : Waiting). other.job.message < waiting.job.message) pending.old) (started_in work) }
     ensures docs { OnOk result (Edits docs.old work.entry docs.new) }
@@ -128,7 +129,7 @@ fn begin(alloc: Global, docs: &mut Docs, pending: &mut Pending, work: Work<'_>) 
 }
 
 /// Lets the requests go that are ended.
-fn release(pending: &mut Pending, ends: Option<Which<'_>>)
+fn release(pending: &mut Pending<Waiting>, ends: Option<Which<'_>>)
     requires { IsEnding ends }
     ensures { pending.new ≡ others_than (end_behind ends.entry) pending.old }
 {

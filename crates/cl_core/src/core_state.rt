@@ -1,7 +1,8 @@
-use crate::pending::Pending;
+use crate::waiting::Waiting;
 use cl_base::{Config, Duplicate, List, Mem, Path};
 use cl_headers::HeaderMap;
 use cl_history::Entry;
+use cl_pending::Pending;
 use cl_store::Docs;
 use std::alloc::Global;
 use std::marker::Model;
@@ -23,7 +24,7 @@ pub struct State {
     pub(crate) shut_down: bool,
     pub(crate) docs: Docs,
     pub(crate) headers: HeaderMap,
-    pub(crate) pending: Pending,
+    pub(crate) pending: Pending<Waiting>,
     pub(crate) awaited: Option<Awaited>,
     pub(crate) messages: u64,
     pub(crate) loads: u64,

@@ -13,9 +13,9 @@ use crate::decision::Decision;
 use crate::headers::headers_after;
 use crate::refusal::refusal_of;
 use crate::replies::replies_of;
-use crate::waiting::Which;
 use crate::work::work_of;
 use cl_base::Mem;
+use cl_pending::Which;
 use cl_rpc::Class;
 use std::alloc::Global;
 

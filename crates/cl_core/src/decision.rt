@@ -1,7 +1,8 @@
 use crate::event::Effect;
-use crate::waiting::{Waiting, Which};
+use crate::waiting::Waiting;
 use cl_base::{List, Path, Text};
 use cl_headers::HeaderMap;
+use cl_pending::Which;
 
 /// What a message does to the documents, and the request that starts to wait by it.
 #[derive(Drop)]

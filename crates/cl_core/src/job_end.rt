@@ -3,12 +3,14 @@ ghost use Rattle.cl_core.specs.Steps.{Completes};
 
 use crate::core_state::State;
 use crate::event::Effect;
+use crate::jobs::waiting_for;
 use crate::note::{finishes, with_finish};
 use crate::replies::one;
-use crate::waiting::Which;
 use cl_base::{Duplicate, List, Mem};
+use cl_headers::Dep;
 use cl_history::Entry;
-use cl_query::{Dep, Job};
+use cl_pending::Which;
+use cl_query::Job;
 use cl_rpc::{How, Out, Reply};
 use std::alloc::Global;
 
@@ -26,7 +28,7 @@ pub fn complete(
     ensures ok { IfOk result (λ effects. Completes core.old job.now seen.now mark how out core.new effects) }
     ensures err { OnErr result (core.new ≡ core.old) }
 {
-    let waiting = match core.pending.waiting_for(job, seen) {
+    let waiting = match waiting_for(&core.pending, job, seen) {
         Some(waiting) => waiting,
         None => return Ok(List::new(alloc)),
     };

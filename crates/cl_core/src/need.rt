@@ -7,7 +7,7 @@ ghost use Rattle.cl_core.specs.Steps.{IsLost, Lacks, Loads, StartsAgain};
 use crate::core_state::{Awaited, State};
 use crate::event::Effect;
 use crate::headers::with_read;
-use crate::pending::job_again;
+use crate::jobs::{begin_again, job_again, waiting_for};
 use cl_base::{Duplicate, List, Mem, Memory, Path, Read};
 use cl_history::Entry;
 use cl_query::{Job, Need};
@@ -20,7 +20,7 @@ pub fn need(alloc: Global, core: &mut State, need: Need) -> Mem<List<Effect>>
     ensures err { OnErr result (core.new ≡ core.old) }
 {
     let Need { job, path, seen } = need;
-    if core.pending.waiting_for(&job, seen.as_slice()).is_none() {
+    if waiting_for(&core.pending, &job, seen.as_slice()).is_none() {
         return Ok(List::new(alloc));
     }
     match core.headers.get(&path) {
@@ -48,8 +48,7 @@ fn start_again(alloc: Global, core: &mut State, job: Job) -> Mem<List<Effect>>
     let headers = core.headers.duplicate(alloc)?;
     let job = job_again(job, core.jobs, mark, headers.duplicate(alloc)?);
     let effects = start_of(alloc, job)?;
-    core.pending
-        .begin_again(alloc, message, core.jobs, mark, &headers)?;
+    begin_again(alloc, &mut core.pending, message, core.jobs, mark, &headers)?;
     core.jobs = jobs;
     Ok(effects)
 }
@@ -94,11 +93,7 @@ pub fn loaded(
     let effects = start_of(alloc, job)?;
     let length = core.journal.len();
     core.journal.push(Entry::Load(core.loads))?;
-    if core
-        .pending
-        .begin_again(alloc, message, core.jobs, mark, &headers)
-        .is_err()
-    {
+    if begin_again(alloc, &mut core.pending, message, core.jobs, mark, &headers).is_err() {
         core.journal.truncate(length);
         return Err(Memory);
     }

@@ -1,5 +1,6 @@
 ghost use Rattle.std.specs.Prelude.{◌≡◌, ◌∷◌, [], ◌++◌, IfOk, ◌&&◌, is_some};
-ghost use Rattle.cl_core.specs.Steps.{entries_of, finish_if, finishes, is_nil};
+ghost use Rattle.cl_core.specs.Steps.{entries_of, finish_if, finishes};
+ghost use Rattle.cl_pending.specs.Meant.{is_nil};
 ghost use Rattle.cl_core.specs.declared.waiting.Waiting.{Waiting};
 
 use crate::event::Effect;

@@ -9,8 +9,9 @@ ghost use Rattle.cl_core.specs.Decisions.{IsEnding, end_behind};
 
 use crate::core_state::State;
 use crate::event::Effect;
-use crate::waiting::{Waiting, Which};
+use crate::waiting::Waiting;
 use cl_base::{Duplicate, List, Mem};
+use cl_pending::Which;
 use cl_rpc::{Class, How, Id, Out, Reply};
 use std::alloc::Global;
 

@@ -1,4 +1,5 @@
 use cl_base::Path;
+use cl_pending::Waits;
 use cl_query::Job;
 use cl_rpc::Id;
 
@@ -10,13 +11,20 @@ pub struct Waiting {
     pub job: Job,
 }
 
-/// Which of the waiting requests are meant.
-#[derive(Clone, Copy)]
-pub enum Which<'a> {
-    /// The one of this id.
-    Id(&'a Id),
-    /// Those on this document.
-    Document(&'a Path),
-    /// The one that this message made.
-    Message(u64),
+impl Waits for Waiting {
+    ghost use Rattle.cl_core.specs.Waiting.{key_of};
+
+    ghost key = { key_of };
+
+    fn id(&self) -> &Id {
+        &self.id
+    }
+
+    fn message(&self) -> u64 {
+        self.job.message
+    }
+
+    fn path(&self) -> &Path {
+        &self.job.path
+    }
 }

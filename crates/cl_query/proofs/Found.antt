@@ -14,7 +14,6 @@ use Rattle.cl_base.specs.declared.headers.Known.{Known}
 use Rattle.cl_base.specs.declared.headers.Known.TheVariants as state
 use Rattle.cl_base.specs.declared.query.Query.{Query}
 use Rattle.cl_base.specs.declared.query.Query.TheVariants.{Symbols}
-use Rattle.cl_headers.specs.declared.dep.Dep.{Dep as Kept}
 use Rattle.cl_headers.specs.Headers.{Headers, known_at}
 use Rattle.cl_headers.specs.Maps.{IsHeaderMap}
 use Rattle.cl_headers.specs.Noting.{dep_of}
@@ -30,7 +29,7 @@ use Rattle.cl_pp.proofs.Agreeing.{Agree, from_same}
 use Rattle.cl_pp.proofs.Found.{from_first}
 use Rattle.cl_query.specs.declared.answers.Found.{Found}
 use Rattle.cl_query.specs.declared.answers.Found.TheVariants.{Answer as Answered, Need}
-use Rattle.cl_query.specs.declared.seen.Dep.{Dep}
+use Rattle.cl_headers.specs.declared.dep.Dep.{Dep}
 use Rattle.cl_query.specs.AnswerOf.{AnswerOf, NeedsOf, answer_of_symbols, needs_of_symbols}
 use Rattle.cl_base.specs.declared.token.PpToken.{PpToken}
 use Rattle.cl_parse.specs.declared.item.Item.{Item}
@@ -128,13 +127,13 @@ module _ (config : Settings) (headers : Headers) (path text : List ℕ) (first :
   elsewhere answer p others a =
       let paths : asked ≡ p.noted.asked = p.noted.since in
       let agrees : Agree (known_of others) p.from.done.deps =
-      subst (λ (ds : List Kept). Agree (known_of others) ds) (sym p.noted.are) (agree_paths others headers p.noted.asked (subst (λ (ps : List (List ℕ)). Agrees others (map (dep_in headers) ps)) paths a)) in
+      subst (λ (ds : List Dep). Agree (known_of others) ds) (sym p.noted.are) (agree_paths others headers p.noted.asked (subst (λ (ps : List (List ℕ)). Agrees others (map (dep_in headers) ps)) paths a)) in
       from_first config first (known_of others) path text answer f (from_same (known_of others) (before_of first) (known_of headers) config.includes path text answer p.from agrees)
 
   needed_unknown : (needed : List ℕ) → Made (pp.Need needed) → IsUnknown headers needed
   needed_unknown needed p =
       let last : wanted p.from.done.deps ≡ Some needed = needed_is needed (wanted p.from.done.deps) p.from.done p.from.is in
-      unknown_at headers needed (m (subst (λ (ps : List (List ℕ)). 0 < length ps) (sym p.noted.since) (some_asked (known_of headers) p.noted.asked needed (subst (λ (ds : List Kept). wanted ds ≡ Some needed) p.noted.are last)))) (wanted_told (known_of headers) p.noted.asked (length (map (dep_of (known_of headers)) p.noted.asked) - 1) needed (subst (λ (ds : List Kept). wanted ds ≡ Some needed) p.noted.are last))
+      unknown_at headers needed (m (subst (λ (ps : List (List ℕ)). 0 < length ps) (sym p.noted.since) (some_asked (known_of headers) p.noted.asked needed (subst (λ (ds : List Dep). wanted ds ≡ Some needed) p.noted.are last)))) (wanted_told (known_of headers) p.noted.asked (length (map (dep_of (known_of headers)) p.noted.asked) - 1) needed (subst (λ (ds : List Dep). wanted ds ≡ Some needed) p.noted.are last))
 
   pub found : (answer : PpAnswer) (seen : List Dep) (it : Found) → Made answer → seen ≡ map (dep_in headers) asked → IsFoundBy text answer seen it → FindsOver Symbols config headers path text it
   found (pp.Done done) seen (Answered (Listed symbols) deps) p s h =

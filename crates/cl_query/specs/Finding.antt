@@ -14,7 +14,7 @@ use Rattle.cl_pp.specs.declared.done.PpAnswer.TheVariants as pp
 use Rattle.cl_query.specs.declared.answers.Found.{Found}
 use Rattle.cl_query.specs.declared.answers.Found.TheVariants.{Answer as Answered, Need}
 use Rattle.cl_query.specs.declared.job.Job.{Job}
-use Rattle.cl_query.specs.declared.seen.Dep.{Dep}
+use Rattle.cl_headers.specs.declared.dep.Dep.{Dep}
 use Rattle.cl_query.specs.Seen.{Agrees, NeedRests, Rests, says}
 use Rattle.cl_query.specs.Symbols.{symbols_in}
 use Rattle.cl_query.specs.Unknowns.{IsUnknown}

@@ -1,7 +1,7 @@
 -- Which job the work on a job may stand for.
 use Rattle.std.specs.Prelude.{◌≡◌, List, []}
 use Rattle.cl_query.specs.declared.job.Job.{Job}
-use Rattle.cl_query.specs.declared.seen.Dep.{Dep}
+use Rattle.cl_headers.specs.declared.dep.Dep.{Dep}
 use Rattle.cl_query.specs.Seen.{Agrees}
 
 -- a job but for what is known of headers

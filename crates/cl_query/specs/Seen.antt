@@ -9,7 +9,7 @@ use Rattle.cl_base.specs.declared.headers.Known.TheVariants.{Unknown}
 use Rattle.cl_base.specs.contracts.headers.Known.{the_row}
 use Rattle.cl_base.specs.declared.query.Query.{Query}
 use Rattle.cl_headers.specs.Headers.{Headers, known_at}
-use Rattle.cl_query.specs.declared.seen.Dep.{Dep}
+use Rattle.cl_headers.specs.declared.dep.Dep.{Dep}
 use Rattle.cl_query.specs.AnswerOf.{AnswerOf, AnswerOf-prop, NeedsOf, NeedsOf-prop}
 
 -- what a snapshot says of a path: what is known of it, or that nothing is

@@ -6,10 +6,9 @@ ghost use Rattle.cl_pp.specs.Places.{IfDone, InOrder, in_document, nowhere};
 ghost use Rattle.cl_query.specs.Finding.{Finds, IsFoundBy, IsListed, dep_in};
 
 use crate::job::Job;
-use crate::seen::Dep;
 use crate::symbols::symbols;
 use cl_base::{Answer, Duplicate, EmptyBase, Known, List, Mem, Path, PpToken, Query, Symbol};
-use cl_headers::{HeaderMap, MapView};
+use cl_headers::{Dep, HeaderMap, MapView};
 use cl_parse::items;
 use cl_pp::{PpAnswer, PpState, preprocess};
 use std::alloc::Global;

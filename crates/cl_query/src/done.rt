@@ -4,8 +4,8 @@ ghost use Rattle.cl_query.specs.Seen.{Agrees, Agrees-prop, NeedRests, NeedRests-
 ghost use Rattle.cl_query.specs.Unknowns.{IsUnknown, IsUnknown-prop};
 
 use crate::job::Job;
-use crate::seen::Dep;
 use cl_base::{Answer, List, Path};
+use cl_headers::Dep;
 
 /// A job with its answer, and what the work saw of headers, in order. There is none with another answer than the one of
 /// every job that differs in its headers alone and whose headers say what was seen, as this job's do.

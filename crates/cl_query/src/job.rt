@@ -3,9 +3,9 @@
 ghost use Rattle.std.specs.Prelude.{◌≡◌, ◌↔◌, IsTrue};
 ghost use Rattle.cl_query.specs.Over.{IsOver, work_of};
 
-use crate::seen::{Dep, agrees};
+use crate::seen::agrees;
 use cl_base::{Config, Duplicate, Mem, Path, Query, Text};
-use cl_headers::HeaderMap;
+use cl_headers::{Dep, HeaderMap};
 use std::alloc::Global;
 
 /// A query with all that its answer depends on. `number` names the job, `message` is the number of the message that it

@@ -13,4 +13,3 @@ pub use done::{Done, JobAnswer, Need};
 pub use job::Job;
 pub use laws::{answer_or_need, one_answer, some_answer};
 pub use run::run_job;
-pub use seen::Dep;

@@ -3,15 +3,8 @@
 ghost use Rattle.std.specs.Prelude.{◌≡◌, ◌↔◌, IsTrue};
 ghost use Rattle.cl_query.specs.Seen.{Agrees, says};
 
-use cl_base::{Known, Path};
-use cl_headers::HeaderMap;
-
-/// A header that was looked at: its path, and what was known of it, `Unknown` where nothing was.
-#[derive(Drop)]
-pub struct Dep {
-    pub path: Path,
-    pub known: Known,
-}
+use cl_base::Known;
+use cl_headers::{Dep, HeaderMap};
 
 /// Whether a snapshot says of each path that was looked at what was seen there. It takes no memory, and time
 /// logarithmic in what the snapshot knows for each of these.

@@ -9,6 +9,8 @@ mod header_map;
 #[cfg(test)]
 mod large;
 #[cfg(test)]
+mod many_works;
+#[cfg(test)]
 mod queries;
 #[cfg(test)]
 mod snapshots;

@@ -2,8 +2,8 @@
 //! saw.
 
 use cl_base::{Config, Duplicate, Known, List, Mem, Memory, Path, Query, Text};
-use cl_headers::HeaderMap;
-use cl_query::{Dep, Job};
+use cl_headers::{Dep, HeaderMap};
+use cl_query::Job;
 use std::alloc::Global;
 
 /// The headers of a large session.

@@ -1,11 +1,11 @@
 //! Worked examples of what a session's core does at each event. In the table a line `new` begins a session, and every
 //! other line is an event with what it must give. `ask-text` and `cancel-text` have an id that is a text. `done` and `fail`
 //! have the number of a job, from 0. A job is told with its number, its message, its mark, and its document's version and
-//! text; a reply with its message, its mark and its id. `known` asks what is known of a path, and `length` how many
-//! entries the journal has.
+//! text; a reply with its message, its mark and its id. `loaded`, `absent` and `unread` are reads of a header. `known` asks
+//! what is known of a path, and `length` how many entries the journal has.
 
 use crate::step_rows::ROWS;
-use cl_base::{Answer, Config, Duplicate, Known, List, Mem, Path, Text};
+use cl_base::{Answer, Config, Duplicate, Known, List, Mem, Path, Read, Text};
 use cl_core::{Core, Effect, Ending, Event};
 use cl_query::{Job, JobAnswer, run_job};
 use cl_rpc::{Call, Id, Out, Parsed, Reply};
@@ -108,10 +108,18 @@ fn event_of(alloc: Global, jobs: &[Job], word: &str, rest: &str) -> Mem<Event> {
         "open" | "change" | "close" | "watched" => {
             notification(document_call(alloc, word, first, digit_of(second), text)?)
         }
+        "loaded" => Event::Loaded(Path::new(alloc, first)?, found(alloc, rest)?),
+        "absent" => Event::Loaded(Path::new(alloc, first)?, Read::Absent),
+        "unread" => Event::Loaded(Path::new(alloc, first)?, Read::Failed),
         "done" => end_of(alloc, jobs, digit_of(first), true)?,
         "fail" => end_of(alloc, jobs, digit_of(first), false)?,
         _ => Event::End(Ending::Edge),
     })
+}
+
+/// A read that gave this text.
+fn found(alloc: Global, text: &str) -> Mem<Read> {
+    Ok(Read::Found(Text::new(alloc, text.as_bytes())?))
 }
 
 fn request(id: Id, call: Call) -> Event {

@@ -20,7 +20,7 @@ use Rattle.cl_history.specs.Written.{Writes}
 use Rattle.cl_history.specs.Refusals.{is_exit}
 use Rattle.cl_core.specs.Steps.{IsLost, Lacks, Loads, Steps, awaited_message, hears}
 use Rattle.cl_query.specs.declared.done.Need.{Need}
-use Rattle.cl_query.specs.declared.seen.Dep.{Dep}
+use Rattle.cl_headers.specs.declared.dep.Dep.{Dep}
 use Rattle.cl_headers.specs.Headers.{known_at}
 use Rattle.cl_core.specs.Waiting.{number_of}
 use Rattle.cl_core.specs.Standing as standing

@@ -1,6 +1,6 @@
 use Rattle.std.proofs.Common.{List, refl, inr, rules, subst}
 use Rattle.std.specs.Prelude.{Contains}
-use Rattle.cl_query.specs.declared.seen.Dep.{Dep}
+use Rattle.cl_headers.specs.declared.dep.Dep.{Dep}
 use Rattle.cl_query.specs.Over.{IsOver}
 use Rattle.cl_core.specs.declared.waiting.Waiting.{Waiting}
 use Rattle.cl_core.proofs.need.need.Goals as goal

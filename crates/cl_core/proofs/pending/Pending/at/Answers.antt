@@ -1,7 +1,0 @@
-use Rattle.std.proofs.Common.{ap, sym, ◌∙◌}
-use Rattle.std.specs.Prelude.{option_to_list}
-use Rattle.cl_core.proofs.Indexed.{at_number}
-use Rattle.cl_core.proofs.pending.Pending.at.Goals as goal
-
-pub returns : goal.returns
-returns c = rw (← c.self.view_is) (ap option_to_list c.get.ensures.value ∙ sym (at_number c.args.message c.self.inside.waiting.entries c.self.invariant.keyed c.self.invariant.ordered))
