@@ -1,8 +1,7 @@
-use Rattle.std.proofs.Common.{◌≡◌, rules, subst, sym, ap, ◌∙◌}
+use Rattle.std.proofs.Common.{◌≡◌, rules, subst, sym}
 use Rattle.std.specs.Prelude.{Some, None}
 use Rattle.std.specs.Ordering.{nat_cmp}
 use Rattle.std.specs.BTreeMap.{get, values, insert_entry}
-use Rattle.cl_pending.specs.Meant.{with_in_place}
 use Rattle.cl_pending.proofs.InPlace.{AreSame, none_put, still_indexed, values_put}
 use Rattle.cl_pending.proofs.pending.Pending.replace.Goals as goal
 
