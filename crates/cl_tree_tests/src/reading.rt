@@ -1,9 +1,8 @@
-//! Texts to tokens, and trees as they are written out.
+//! Texts to tokens.
 
 use cl_base::{Duplicate, List, Mem, Name, PpToken, Span};
-use cl_expr::{parse, parse_expr};
 use cl_lex::lex;
-use cl_tree::{NameSet, Nonterminal, Rule, Tree};
+use cl_tree::NameSet;
 use std::alloc::Global;
 
 /// The tokens of a text, where no line is a directive.
@@ -32,48 +31,4 @@ pub fn two_names(alloc: Global) -> Mem<NameSet> {
     names.add(alloc, &Name::new(alloc, b"T")?)?;
     names.add(alloc, &Name::new(alloc, b"U")?)?;
     Ok(names)
-}
-
-/// The tree of an expression as it is written out, or `none`.
-pub fn expression(alloc: Global, text: &[u8]) -> Mem<String> {
-    let tokens = tokens_of(alloc, text)?;
-    let names = two_names(alloc)?;
-    let tree = parse_expr(alloc, tokens.as_slice(), &names)?;
-    written(alloc, tokens.as_slice(), tree)
-}
-
-/// The same of any nonterminal.
-pub fn other(alloc: Global, text: &[u8], goal: Nonterminal) -> Mem<String> {
-    let tokens = tokens_of(alloc, text)?;
-    let names = two_names(alloc)?;
-    let tree = parse(alloc, tokens.as_slice(), &names, goal)?;
-    written(alloc, tokens.as_slice(), tree)
-}
-
-fn written(alloc: Global, tokens: &[PpToken], tree: Option<Tree>) -> Mem<String> {
-    let mut out = String::new(alloc);
-    match tree {
-        Some(tree) => write_tree(alloc, &mut out, tokens, &tree)?,
-        None => out.push_str("none")?,
-    }
-    Ok(out)
-}
-
-/// A token as it is spelled, any other tree as its rule, its choice and its parts in parentheses.
-fn write_tree(alloc: Global, out: &mut String, tokens: &[PpToken], tree: &Tree) -> Mem<()> {
-    if tree.rule == Rule::Token {
-        if let Some(token) = tokens.get(tree.from as usize) {
-            let text = String::from_utf8_lossy(alloc, token.text.bytes())?;
-            out.push_str(&text)?;
-        }
-        return Ok(());
-    }
-    let head = format!(in alloc; "({:?}.{}", tree.rule, tree.choice)?;
-    out.push_str(head.as_str())?;
-    for part in tree.parts.as_slice() {
-        out.push_str(" ")?;
-        write_tree(alloc, out, tokens, part)?;
-    }
-    out.push_str(")")?;
-    Ok(())
 }

@@ -1,0 +1,79 @@
+//! A table of cases. A line with ` => ` is a case: a text, and behind the arrow its tree. Of the other lines `[section]` says
+//! what the texts behind it are read as, `typedefs` which names are typedef names before each, and an empty line and one
+//! that begins with `;` say nothing.
+
+use crate::trees;
+use cl_base::{Mem, Name};
+use cl_tree::NameSet;
+use std::alloc::Global;
+
+/// What the texts of a section are read as.
+#[derive(Clone, Copy, Drop)]
+enum Section {
+    /// Expressions (N1570 6.5.17).
+    Expression,
+    /// Declarations (6.7).
+    Declaration,
+    /// Type names (6.7.7).
+    TypeName,
+}
+
+/// What stands between the lines of a table.
+#[derive(Drop)]
+pub(crate) struct Table {
+    section: Section,
+    typedefs: NameSet,
+}
+
+impl Table {
+    /// A table before its first line.
+    pub(crate) fn new(alloc: Global) -> Table {
+        Table {
+            section: Section::Expression,
+            typedefs: NameSet::new(alloc),
+        }
+    }
+
+    /// What is printed for the table's next line.
+    pub(crate) fn line(&mut self, alloc: Global, line: &str) -> Mem<String> {
+        if line.contains(" => ") {
+            return self.case(alloc, line);
+        }
+        if line.starts_with("[") {
+            self.section = section_of(line);
+        }
+        if let Some(names) = line.strip_prefix("typedefs ") {
+            self.typedefs = names_of(alloc, names)?;
+        }
+        let shown = format!(in alloc; "{line}\n")?;
+        Ok(shown)
+    }
+
+    fn case(&self, alloc: Global, line: &str) -> Mem<String> {
+        let (text, _wanted) = line.split_once(" => ").unwrap_or((line, ""));
+        let found = match self.section {
+            Section::Expression => trees::expression(alloc, text.as_bytes(), &self.typedefs)?,
+            Section::Declaration => trees::declaration(alloc, text.as_bytes(), &self.typedefs)?,
+            Section::TypeName => trees::type_name(alloc, text.as_bytes(), &self.typedefs)?,
+        };
+        let shown = format!(in alloc; "{text} => {found}\n")?;
+        Ok(shown)
+    }
+}
+
+/// The names of a line, with a space between them.
+fn names_of(alloc: Global, line: &str) -> Mem<NameSet> {
+    let mut names = NameSet::new(alloc);
+    for name in line.split(" ") {
+        names.add(alloc, &Name::new(alloc, name.as_bytes())?)?;
+    }
+    Ok(names)
+}
+
+fn section_of(name: &str) -> Section {
+    match name {
+        "[declaration]" => Section::Declaration,
+        "[type name]" => Section::TypeName,
+        _ => Section::Expression,
+    }
+}
