@@ -26,7 +26,7 @@ one_linkage Internal External e = search (rules, e)
 one_linkage Internal Without e = search (rules, e)
 one_linkage Without External e = search (rules, e)
 one_linkage Without Internal e = search (rules, e)
-one_linkage Without Without e = search (rules, e)
+one_linkage Without Without e = refl
 
 called_so : (o : Option (List ℕ)) (name called : List ℕ) → o ≡ Some name → has_name o called ≡ true → name ≡ called
 called_so o name called e h = one_name name called (sym (ap (λ (x : Option (List ℕ)). has_name x called) e) ∙ h)

@@ -5,3 +5,4 @@ pub mod Begun
 pub mod Before
 pub mod Resume
 pub mod Holding
+pub mod Keeping

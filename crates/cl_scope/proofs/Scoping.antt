@@ -87,7 +87,7 @@ found_named false past slot n space name i own ih e = ih e ∙ sym (one_more pas
 
 -- the newest entry of a name gives its number
 found : (t : List Entry) (space : Local) (name : List ℕ) (i : ℕ) → newest t space name ≡ Some i → seen t space name ≡ number_in (reverse (slots_of t)) i
-found [] space name i e = search (rules, e)
+found [] space name i e = search rules
 found (Begin ∷ past) space name i e = found past space name i e ∙ sym (one_more past (record { entry = Begin; hidden = beginning past }) i (newest_within past space name i e))
 found (Named s m n ∷ past) space name i e =
     found_named (binds s m space name) past (record { entry = Named s m n; hidden = newest past s m }) n space name i refl (found past space name i) e

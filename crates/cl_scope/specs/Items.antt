@@ -1,5 +1,6 @@
 -- A unit of items, over a base.
-use Rattle.std.specs.Prelude.{◌≡◌, ℕ, ◌+◌, List, [], ◌∷◌, ◌++◌}
+use Rattle.std.specs.Prelude.{◌≡◌, ℕ, ◌+◌, ◌==◌, ◌&&◌, Bool, true, not, List, [], ◌∷◌, ◌++◌}
+use Rattle.cl_scope.specs.declared.made.Settled.{Settled}
 use Rattle.cl_scope.specs.declared.made.Made.{Made}
 use Rattle.cl_scope.specs.Known.{Known, known, known_after}
 use Rattle.cl_scope.specs.Steps.{Steps, World, run}
@@ -30,3 +31,8 @@ StandsFor h g made = known h ≡ known_after (known g) made
 -- what was made before stays, and what is made after it comes behind it
 abbrev pub OnlyAdds : Made → Made → Type 0
 OnlyAdds old new = (more : Made) × (new ≡ join old more)
+
+-- whether none of these settles what the declaration of this number is
+abbrev pub is_untouched : List Settled → ℕ → Bool
+is_untouched [] n = true
+is_untouched (s ∷ ss) n = not (n == s.no.0) && is_untouched ss n

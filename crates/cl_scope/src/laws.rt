@@ -1,9 +1,10 @@
 //! What holds of all items.
 
-ghost use Rattle.std.specs.Prelude.{◌≡◌, ℕ, List, ◌++◌};
+ghost use Rattle.std.specs.Prelude.{◌≡◌, ◌+◌, ℕ, List, ◌++◌, true};
 ghost use Rattle.cl_scope.specs.declared.made.Made.{Made as TheMade};
 ghost use Rattle.cl_scope.specs.Steps.{Steps, World, run};
-ghost use Rattle.cl_scope.specs.Items.{adds_all, nothing_made, join, StandsFor, OnlyAdds};
+ghost use Rattle.cl_scope.specs.Items.{is_untouched, adds_all, nothing_made, join, StandsFor, OnlyAdds};
+ghost use Rattle.cl_scope.specs.Known.{Known, known_after};
 ghost use Rattle.cl_scope.specs.Sound.{IsSound};
 ghost use Rattle.cl_scope.specs.declared.history.Local.{Local};
 ghost use Rattle.cl_scope.specs.Trail.{seen};
@@ -23,6 +24,13 @@ pub fn stands()
 /// What was made before stays as it was: steps only add.
 pub fn only_adds()
     ensures { (item : Steps) (w : World) → OnlyAdds w.made (run item w).made }
+{}
+
+/// What a declaration is stays until it is settled anew, whatever is made; and each number that is taken raises the count by
+/// one, so numbers rise.
+pub fn keeps()
+    ensures decl { (g : Known) (made : TheMade) (n : ℕ) → is_untouched made.settled n ≡ true → (known_after g made).decl n ≡ g.decl n }
+    ensures count { (g : Known) (old more : TheMade) → (known_after g (join old more)).count ≡ (known_after g old).count + more.taken }
 {}
 
 /// A base of nothing is sound.

@@ -15,6 +15,6 @@ mod scopes;
 pub use base::Base;
 pub use changed::Lasting;
 pub use history::{Entry, Local, Within};
-pub use laws::{nothing_is_sound, only_adds, resumes, stands, visible_is_last};
+pub use laws::{keeps, nothing_is_sound, only_adds, resumes, stands, visible_is_last};
 pub use made::{Bound, Made, PlacedUse, Settled};
 pub use scopes::Scopes;

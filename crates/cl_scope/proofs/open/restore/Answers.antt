@@ -14,5 +14,5 @@ returns-in-Some c = λ other called.
     let there : get (slice_cmp nat_cmp) c.args.heads.now c.args.name.now ≡ Some c.in-Some.head.now = search rules in
     let w = c.get_mut.follows.holds c.set.new.self in
     read_put head_by (get (slice_cmp nat_cmp) c.args.heads.now) other c.set.new.self c.args.at (one_space c.args.space other) c.args.name.now called (get (slice_cmp nat_cmp) (c.get_mut.follows.lender c.set.new.self) called)
-    (name_put c.args.heads.now (c.get_mut.follows.lender c.set.new.self) c.args.name.now (Some c.set.new.self) called (w.3 (search (rules, there))))
+    (name_put c.args.heads.now (c.get_mut.follows.lender c.set.new.self) c.args.name.now (Some c.set.new.self) called (w.3 (search rules)))
     (c.set.ensures other ∙ ap (λ (o : Option Heads). if one_space c.args.space other then c.args.at else head_by o other) (sym there))
