@@ -13,6 +13,8 @@ mod cases_4;
 #[cfg(test)]
 mod expressions;
 #[cfg(test)]
+mod externals;
+#[cfg(test)]
 mod grammar;
 #[cfg(test)]
 mod grammar_cases;
