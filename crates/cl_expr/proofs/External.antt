@@ -127,25 +127,25 @@ module _ (cs : List Lexeme) (h : ℕ) (ok : Symbol → Bool) (z : ℕ) (f : (q :
 piece_end : (cs : List Lexeme) (c : Terminal) (at to : ℕ) (p : Tree) → p ≡ piece cs c at → end p ≡ to → to - 1 ≡ last_token cs c at
 piece_end cs c at to p is e = let x : to ≡ last_token cs c at + 1 = sym e ∙ ap end is ∙ end_piece cs c at in omega (arith, x)
 
+not_true : (b : Bool) → not b ≡ true → b ≡ false
+not_true true n = absurd (false≢true n)
+not_true false n = refl
+
 semicolon_of : (cs : List Lexeme) (h to : ℕ) (s : Scope) → Last cs h to ends_semicolon → class_at cs s (to - 1) ≡ Some cl.Semicolon
 semicolon_of cs h to s l = go l.symbol l.fine l.reads
   where
     go : (x : Symbol) → ends_semicolon x ≡ true → Reads (At cs h) h cs x l.kind l.before l.at l.tree l.after → class_at cs s (to - 1) ≡ Some cl.Semicolon
     go (Node g) t r = absurd (false≢true t)
     go (Token c a) t r =
-        let q = and_parts _ (not (is_body c)) t in
+        let q = and_parts (every (λ v. eqb (class_number v) (class_number cl.Semicolon)) (takes c)) (not (is_body c)) t in
         let k = r.3.0 in
-        let plain : is_body c ≡ false = (let u = q.1 in not_true (is_body c) u) in
+        let plain : is_body c ≡ false = not_true (is_body c) q.1 in
         let same : k ≡ cl.Semicolon = same_class_is k cl.Semicolon (eqb-true (class_number k) (class_number cl.Semicolon)
-        (every_has (λ k. eqb (class_number k) (class_number cl.Semicolon)) (takes c) q.0 k r.3.2)) in
+        (every_has (λ v. eqb (class_number v) (class_number cl.Semicolon)) (takes c) q.0 k r.3.2)) in
         let last_is : last_token cs c l.at ≡ l.at = rw plain refl in
         let there : to - 1 ≡ l.at = piece_end cs c l.at to l.tree r.2 l.ends ∙ last_is in
         let token : class_at cs l.before l.at ≡ Some cl.Semicolon = subst (λ (v : Class). class_at cs l.before l.at ≡ Some v) same r.3.1 in
         subst (λ (i : ℕ). class_at cs s i ≡ Some cl.Semicolon) (sym there) (same_class cs l.before s l.at cl.Semicolon refl token)
-
-    not_true : (b : Bool) → not b ≡ true → b ≡ false
-    not_true true n = absurd (false≢true n)
-    not_true false n = refl
 
 brace_of : (cs : List Lexeme) (h to : ℕ) (s : Scope) → Last cs h to ends_body → class_at cs s (to - 1) ≡ Some cl.RightBrace
 brace_of cs h to s l = go l.symbol l.fine l.reads

@@ -65,10 +65,7 @@ fn ends_with_brace(tokens: &[Lexeme], scope: &Scope) -> bool
     ensures yes { result ≡ true → class_at tokens.now scope.now (length tokens.now - 1) ≡ Some cl.RightBrace }
     ensures no { result ≡ false → class_at tokens.now scope.now (length tokens.now - 1) ≡ Some cl.RightBrace → ⊥ }
 {
-    if tokens.is_empty() {
-        return false;
-    }
-    is_brace(tokens, scope, (tokens.len() - 1) as u32)
+    is_brace(tokens, scope, tokens.len().saturating_sub(1) as u32)
 }
 
 /// The one tree of an external declaration (N1570 6.9) on all of these tokens from one on: of a function definition, whose body

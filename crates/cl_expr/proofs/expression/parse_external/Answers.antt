@@ -13,7 +13,7 @@ pub returns-then-braced-clause-found : goal.returns-then-braced-clause-found
 returns-then-braced-clause-found c = found_as nt.FunctionDefinition c.args.tokens.now c.args.scope.now c.args.from (λ t w d. inl d) c.parse_from.result c.parse_from.ensures.found
 
 pub returns-else-braced-clause-found : goal.returns-else-braced-clause-found
-returns-else-braced-clause-found c = found_as nt.Declaration c.args.tokens.now c.args.scope.now c.args.from (λ t w d. inr d) c.parse_from-2.result c.parse_from-2.ensures.found
+returns-else-braced-clause-found c = found_as nt.Declaration c.args.tokens.now c.args.scope.now c.args.from (λ t w d. inr d) c.parse_from-else-braced.result c.parse_from-else-braced.ensures.found
 
 pub returns-then-braced-clause-only : goal.returns-then-braced-clause-only
 returns-then-braced-clause-only c =
@@ -23,4 +23,4 @@ returns-then-braced-clause-only c =
 pub returns-else-braced-clause-only : goal.returns-else-braced-clause-only
 returns-else-braced-clause-only c =
     only_as nt.Declaration c.args.tokens.now c.args.scope.now c.args.from (λ t w d. unbraced c.args.tokens.now c.args.scope.now c.args.from t w (c.ends_with_brace-braced.ensures.no c.if-braced.false) d)
-    c.parse_from-2.result c.parse_from-2.ensures.only
+    c.parse_from-else-braced.result c.parse_from-else-braced.ensures.only
