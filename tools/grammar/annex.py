@@ -1,4 +1,4 @@
-"""The grammar of N1570 A.2.1 and A.2.2, as it is laid out in the standard: what `specs/Grammar.antt` of cl_tree is written from.
+"""The grammar of N1570 A.2.1, A.2.2 and A.2.4, as it is laid out in the standard: what `specs/Grammar.antt` of cl_tree is written from.
 
 U(nonterminal, others)                  a production whose right side is one nonterminal: its tree stands for it
 R(nonterminal, rule, choice, parts)     any other production: a node of this rule, with the number of the alternative
@@ -9,7 +9,7 @@ CLASSES = ("Ident IdentColon TypedefName TypedefColon Constant String LeftParen 
   "Ellipsis Comma LastComma DesignationComma Equal StarEqual SlashEqual PercentEqual PlusEqual MinusEqual ShiftLeftEqual ShiftRightEqual AmpersandEqual CaretEqual BarEqual "
   "Sizeof Alignof Generic Default Case If Else Switch While Do For Goto Continue Break Return StaticAssert Typedef Extern Static ThreadLocal Auto Register "
   "Void Char Short Int Long Float Double Signed Unsigned Bool Struct Union Enum Const Restrict Volatile Atomic AtomicParen Inline Noreturn Alignas Other").split()
-SETS = {'Name': 'Ident IdentColon TypedefName TypedefColon'.split(), 'Open': 'LeftParen TypeParen LiteralParen'.split(), 'TypeOpen': 'TypeParen LiteralParen'.split(), 'Typed': 'TypedefName TypedefColon'.split()}
+SETS = {'Name': 'Ident IdentColon TypedefName TypedefColon'.split(), 'Open': 'LeftParen TypeParen LiteralParen'.split(), 'TypeOpen': 'TypeParen LiteralParen'.split(), 'Typed': 'TypedefName TypedefColon'.split(), 'Body': ['LeftBrace']}
 ACTS = 'Stay Typedef Name Declare Finish Forget Open Close Shut'.split()
 RULES_TREE = ("PrimaryExpression GenericSelection GenericAssocList GenericAssociation PostfixExpression ArgumentExpressionList UnaryExpression UnaryOperator CastExpression "
   "MultiplicativeExpression AdditiveExpression ShiftExpression RelationalExpression EqualityExpression AndExpression ExclusiveOrExpression InclusiveOrExpression "
@@ -142,3 +142,7 @@ R('DesignatorList', 'DesignatorList', 0, N('Designator'), many(N('Designator')))
 R('Designator', 'Designator', 0, T('LeftBracket'), CONST, RB); R('Designator', 'Designator', 1, T('Dot'), NAME)
 R('StaticAssertDeclaration', 'StaticAssertDeclaration', 0, T('StaticAssert'), OPEN, CONST, COMMA, T('String'), many(T('String')), RP, SEMI)
 U('AnyDeclarator', 'ParameterDeclarator', 'AbstractDeclarator'); U('DirectAnyDeclarator', 'DirectParameterDeclarator', 'DirectAbstractDeclarator')
+
+S('External definitions', 'A.2.4')
+f = 'FunctionDefinition'
+R(f, f, 0, N('DeclarationSpecifiers'), N('Declarator'), T('Body', 'Finish'))

@@ -44,9 +44,9 @@ if __name__ == '__main__':
       [('Token', 'One token'), ('Hole', 'A range that another parser reads'), ('Bad', 'Tokens that are no item of a block')] + [(r, f'{std(r)} ({SECTIONS[r]})') for r in RULES_TREE]))
     w('src/class.rt', enum('Class', 'What the grammar tells of a token. Some classes look at the token after it, and at the partner of a `(`.',
       [(c, CLASS_DOC.get(c) or ('`' + (SPELL[c] if c in SPELL else word(c)) + '`')) for c in CLASSES]))
-    w('src/nonterminal.rt', enum('Nonterminal', 'A nonterminal of the grammar: those of N1570 A.2.1 and A.2.2, and some that tell apart where one of them stands.',
+    w('src/nonterminal.rt', enum('Nonterminal', 'A nonterminal of the grammar: those of N1570 A.2.1, A.2.2 and A.2.4, and some that tell apart where one of them stands.',
       [(g, (EXTRA_DOC[g] if g in EXTRA_DOC else std(g)) + f' ({SECTIONS[g]})') for g in GOALS]))
-    o = '''//! The grammar of expressions and declarations: N1570 A.2.1 and A.2.2, in the standard's order.
+    o = '''//! The grammar of expressions, declarations and function definitions: N1570 A.2.1, A.2.2 and A.2.4, in the standard's order.
 
 ghost use Rattle.std.specs.Prelude.{◌≡◌, map};
 ghost use Rattle.cl_tree.specs.Grammar as g;
@@ -56,7 +56,7 @@ use crate::nonterminal::Nonterminal;
 use crate::rule::Rule;
 
 '''
-    o += enum('Terminal', 'The tokens that a production takes at a place.', [('Is(Class)', 'Those of one class'), ('Name', 'An identifier, a typedef name too'), ('Open', 'Any `(`'), ('TypeOpen', '`(` before what may begin a type'), ('Typed', 'A typedef name')], 'Clone, Copy') + '\n'
+    o += enum('Terminal', 'The tokens that a production takes at a place.', [('Is(Class)', 'Those of one class'), ('Name', 'An identifier, a typedef name too'), ('Open', 'Any `(`'), ('TypeOpen', '`(` before what may begin a type'), ('Typed', 'A typedef name'), ('Body', '`{` with all up to its partner: a body, which is read as one part')], 'Clone, Copy') + '\n'
     o += enum('Act', 'What reading a token does to the names that are declared.', [('Stay', 'Nothing'), ('Typedef', 'What is declared from here on is a typedef name'), ('Name', 'The token is the name that is being declared'), ('Declare', 'The name that is being declared is so from here on'),
       ('Finish', 'The same, and what is declared after it is no typedef name'), ('Forget', 'The name that is being declared is a member and hides nothing'), ('Open', 'A list of parameters, members or enumerators begins'), ('Close', 'A list of parameters ends, and its names with it'), ('Shut', 'A list of members or enumerators ends; its names stay')], 'Clone, Copy') + '\n'
     o += '''/// A symbol of a right side.
@@ -284,7 +284,7 @@ pub fn units() -> &'static [Unit]
 }
 """
     w('src/production_rows.rt', q)
-    a = '''-- The grammar of expressions and declarations: N1570 A.2.1 and A.2.2, in the standard's order and with its section numbers.
+    a = '''-- The grammar of expressions, declarations and function definitions: N1570 A.2.1, A.2.2 and A.2.4, in the standard's order and with its section numbers.
 -- Written by tools/grammar/emit_tree.py from tools/grammar/annex.py.
 use Rattle.std.specs.Prelude.{ℕ, List, [], ◌∷◌, ◌++◌, Option, Some, None, cond, slice_range}
 use Rattle.cl_tree.specs.declared.class.Class.{Class}

@@ -1,4 +1,4 @@
-"""N1570 A.2.1 and A.2.2, typed in from the standard in its own notation (without _Complex), and what a test compares with the table:
+"""N1570 A.2.1, A.2.2 and A.2.4, typed in from the standard in its own notation (without _Complex), and what a test compares with the table:
 each alternative with and without each of its optional parts. Writes crates/cl_tree_tests/src/grammar_cases.rt."""
 import itertools, os
 TEXT = '''
@@ -62,6 +62,7 @@ designation: designator-list =
 designator-list: designator | designator-list designator
 designator: [ constant-expression ] | . identifier
 static_assert-declaration: _Static_assert ( constant-expression , string-literal ) ;
+function-definition: declaration-specifiers declarator compound-statement
 '''
 def camel(n): return ''.join(w[0].upper() + w[1:].lower() for w in n.replace('static_assert', 'static-assert').split('-'))
 TERMINALS = {'identifier', 'constant', 'string-literal'}
@@ -69,7 +70,7 @@ RULES = {}
 for line in TEXT.strip().splitlines():
     head, right = line.split(': ', 1)
     RULES[head] = [[x.replace('BARBAR', '||').replace('BAR', '|').replace('QUERY', '?') if x not in ('QUERY',) else '?' for x in a.split()] for a in right.split(' | ')]
-def symbol(x): return camel(x) if x in RULES or x in ('declaration-specifiers', 'specifier-qualifier-list') else ('identifier' if x == 'enumeration-constant' else x)
+def symbol(x): return camel(x) if x in RULES or x in ('declaration-specifiers', 'specifier-qualifier-list', 'compound-statement') else ('identifier' if x == 'enumeration-constant' else x)
 def expand(a):
     parts = [[[symbol(x[:-1])], []] if x.endswith('?') and len(x) > 1 else [[symbol(x)]] for x in a]
     return [[s for p in c for s in p] for c in itertools.product(*parts)]
@@ -91,7 +92,7 @@ def token(x): return x if x[0].isupper() else WORDS.get(x) or ''.join(w.capitali
 LINES = sorted(set(f'{h} {"unit" if c is None else c}:' + ''.join(' ' + token(x) for x in r) for h, c, r in ROWS))
 if __name__ == '__main__':
     print(len(LINES))
-    o = '''//! Each alternative of N1570 A.2.1 and A.2.2, with and without each of its optional parts, as typed in from the standard; of a list
+    o = '''//! Each alternative of N1570 A.2.1, A.2.2 and A.2.4, with and without each of its optional parts, as typed in from the standard; of a list
 //! rule, one member. Written by tools/grammar/standard.py. The rules for specifiers stand apart: here they are one node.
 
 '''

@@ -1,6 +1,6 @@
 -- Every class, and numbers that tell apart.
-use Rattle.std.proofs.Common.{◌≡◌, ℕ, List, [], ◌∷◌, refl, ap, sym, ◌∙◌}
-use Rattle.std.specs.Prelude.{Some, slice_get}
+use Rattle.std.proofs.Common.{◌≡◌, ℕ, ◌+◌, List, [], ◌∷◌, refl, ap, sym, ◌∙◌, arith}
+use Rattle.std.specs.Prelude.{Option, Some, None, slice_get}
 use Rattle.cl_tree.specs.declared.class.Class.{Class}
 use Rattle.cl_tree.specs.declared.class.Class.TheVariants as cl
 use Rattle.cl_tree.specs.declared.nonterminal.Nonterminal.{Nonterminal}
@@ -227,7 +227,7 @@ pub same_class_is : (x y : Class) → class_number x ≡ class_number y → x �
 same_class_is x y e = some_class (sym (numbered_class x) ∙ ap (λ (n : ℕ). slice_get all_classs n) e ∙ numbered_class y)
 
 abbrev pub all_goals : List Nonterminal
-all_goals = nt.PrimaryExpression ∷ nt.GenericSelection ∷ nt.GenericAssocList ∷ nt.GenericAssociation ∷ nt.PostfixExpression ∷ nt.ArgumentExpressionList ∷ nt.UnaryExpression ∷ nt.UnaryOperator ∷ nt.CastExpression ∷ nt.MultiplicativeExpression ∷ nt.AdditiveExpression ∷ nt.ShiftExpression ∷ nt.RelationalExpression ∷ nt.EqualityExpression ∷ nt.AndExpression ∷ nt.ExclusiveOrExpression ∷ nt.InclusiveOrExpression ∷ nt.LogicalAndExpression ∷ nt.LogicalOrExpression ∷ nt.ConditionalExpression ∷ nt.AssignmentExpression ∷ nt.AssignmentOperator ∷ nt.Expression ∷ nt.ConstantExpression ∷ nt.Declaration ∷ nt.DeclarationSpecifiers ∷ nt.InitDeclaratorList ∷ nt.InitDeclarator ∷ nt.StorageClassSpecifier ∷ nt.TypeSpecifier ∷ nt.StructOrUnionSpecifier ∷ nt.StructOrUnion ∷ nt.StructDeclarationList ∷ nt.StructDeclaration ∷ nt.SpecifierQualifierList ∷ nt.StructDeclaratorList ∷ nt.StructDeclarator ∷ nt.EnumSpecifier ∷ nt.EnumeratorList ∷ nt.Enumerator ∷ nt.AtomicTypeSpecifier ∷ nt.TypeQualifier ∷ nt.FunctionSpecifier ∷ nt.AlignmentSpecifier ∷ nt.Declarator ∷ nt.DirectDeclarator ∷ nt.Pointer ∷ nt.TypeQualifierList ∷ nt.ParameterTypeList ∷ nt.ParameterList ∷ nt.ParameterDeclaration ∷ nt.IdentifierList ∷ nt.TypeName ∷ nt.AbstractDeclarator ∷ nt.DirectAbstractDeclarator ∷ nt.TypedefName ∷ nt.Initializer ∷ nt.InitializerList ∷ nt.Designation ∷ nt.DesignatorList ∷ nt.Designator ∷ nt.StaticAssertDeclaration ∷ nt.OtherSpecifier ∷ nt.LaterTypeSpecifier ∷ nt.LaterSpecifier ∷ nt.LaterQualifier ∷ nt.ParameterDeclarator ∷ nt.DirectParameterDeclarator ∷ nt.AnyDeclarator ∷ nt.DirectAnyDeclarator ∷ []
+all_goals = nt.PrimaryExpression ∷ nt.GenericSelection ∷ nt.GenericAssocList ∷ nt.GenericAssociation ∷ nt.PostfixExpression ∷ nt.ArgumentExpressionList ∷ nt.UnaryExpression ∷ nt.UnaryOperator ∷ nt.CastExpression ∷ nt.MultiplicativeExpression ∷ nt.AdditiveExpression ∷ nt.ShiftExpression ∷ nt.RelationalExpression ∷ nt.EqualityExpression ∷ nt.AndExpression ∷ nt.ExclusiveOrExpression ∷ nt.InclusiveOrExpression ∷ nt.LogicalAndExpression ∷ nt.LogicalOrExpression ∷ nt.ConditionalExpression ∷ nt.AssignmentExpression ∷ nt.AssignmentOperator ∷ nt.Expression ∷ nt.ConstantExpression ∷ nt.Declaration ∷ nt.DeclarationSpecifiers ∷ nt.InitDeclaratorList ∷ nt.InitDeclarator ∷ nt.StorageClassSpecifier ∷ nt.TypeSpecifier ∷ nt.StructOrUnionSpecifier ∷ nt.StructOrUnion ∷ nt.StructDeclarationList ∷ nt.StructDeclaration ∷ nt.SpecifierQualifierList ∷ nt.StructDeclaratorList ∷ nt.StructDeclarator ∷ nt.EnumSpecifier ∷ nt.EnumeratorList ∷ nt.Enumerator ∷ nt.AtomicTypeSpecifier ∷ nt.TypeQualifier ∷ nt.FunctionSpecifier ∷ nt.AlignmentSpecifier ∷ nt.Declarator ∷ nt.DirectDeclarator ∷ nt.Pointer ∷ nt.TypeQualifierList ∷ nt.ParameterTypeList ∷ nt.ParameterList ∷ nt.ParameterDeclaration ∷ nt.IdentifierList ∷ nt.TypeName ∷ nt.AbstractDeclarator ∷ nt.DirectAbstractDeclarator ∷ nt.TypedefName ∷ nt.Initializer ∷ nt.InitializerList ∷ nt.Designation ∷ nt.DesignatorList ∷ nt.Designator ∷ nt.StaticAssertDeclaration ∷ nt.FunctionDefinition ∷ nt.OtherSpecifier ∷ nt.LaterTypeSpecifier ∷ nt.LaterSpecifier ∷ nt.LaterQualifier ∷ nt.ParameterDeclarator ∷ nt.DirectParameterDeclarator ∷ nt.AnyDeclarator ∷ nt.DirectAnyDeclarator ∷ []
 
 pub numbered_goal : (x : Nonterminal) → slice_get all_goals (number x) ≡ Some x
 numbered_goal nt.PrimaryExpression = refl
@@ -292,6 +292,7 @@ numbered_goal nt.Designation = refl
 numbered_goal nt.DesignatorList = refl
 numbered_goal nt.Designator = refl
 numbered_goal nt.StaticAssertDeclaration = refl
+numbered_goal nt.FunctionDefinition = refl
 numbered_goal nt.OtherSpecifier = refl
 numbered_goal nt.LaterTypeSpecifier = refl
 numbered_goal nt.LaterSpecifier = refl

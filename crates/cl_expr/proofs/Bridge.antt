@@ -13,10 +13,10 @@ use Rattle.cl_tree.specs.declared.grammar.Separator.{Separator}
 use Rattle.cl_tree.specs.declared.tree.Tree.{Tree}
 use Rattle.cl_tree.specs.declared.lexeme.Lexeme.{Lexeme}
 use Rattle.cl_tree.specs.declared.scope.Scope.{Scope}
-use Rattle.cl_tree.specs.Scopes.{empty, pass}
+use Rattle.cl_tree.specs.Scopes.{pass}
 use Rattle.cl_tree.specs.Grammar.{Production, productions, units}
 use Rattle.cl_tree.specs.Derives as d
-use Rattle.cl_tree.specs.Derives.{Has, start, end, parts, leaf, left_out, Next, nexts, barred, StandsFor, itself, through, Derived, Spans}
+use Rattle.cl_tree.specs.Derives.{Has, start, end, parts, left_out, Next, nexts, barred, StandsFor, itself, through, Derived, SpansFrom}
 use Rattle.cl_expr.specs.declared.table.Edge.{Edge}
 use Rattle.cl_expr.specs.declared.table.Label.{Label}
 use Rattle.cl_expr.specs.declared.table.Ways.{Ways}
@@ -41,11 +41,12 @@ some_of f (y ∷ ys) t = elim (or_cases (f y) (some f ys) t) [
 
 -- equality of symbols
 abbrev terminal_number : Terminal → ℕ
-terminal_number (te.Is k) = suc (suc (suc (suc (class_number k))))
+terminal_number (te.Is k) = suc (suc (suc (suc (suc (class_number k)))))
 terminal_number te.Name = 0
 terminal_number te.Open = 1
 terminal_number te.TypeOpen = 2
 terminal_number te.Typed = 3
+terminal_number te.Body = 4
 
 same_terminal : (t u : Terminal) → terminal_number t ≡ terminal_number u → t ≡ u
 same_terminal (te.Is k) (te.Is l) e = ap te.Is (same_class_is k l (omega arith))
@@ -53,26 +54,37 @@ same_terminal (te.Is k) te.Name e = absurd (omega arith)
 same_terminal (te.Is k) te.Open e = absurd (omega arith)
 same_terminal (te.Is k) te.TypeOpen e = absurd (omega arith)
 same_terminal (te.Is k) te.Typed e = absurd (omega arith)
+same_terminal (te.Is k) te.Body e = absurd (omega arith)
 same_terminal te.Name (te.Is l) e = absurd (omega arith)
 same_terminal te.Name te.Name e = refl
 same_terminal te.Name te.Open e = absurd (omega arith)
 same_terminal te.Name te.TypeOpen e = absurd (omega arith)
 same_terminal te.Name te.Typed e = absurd (omega arith)
+same_terminal te.Name te.Body e = absurd (omega arith)
 same_terminal te.Open (te.Is l) e = absurd (omega arith)
 same_terminal te.Open te.Name e = absurd (omega arith)
 same_terminal te.Open te.Open e = refl
 same_terminal te.Open te.TypeOpen e = absurd (omega arith)
 same_terminal te.Open te.Typed e = absurd (omega arith)
+same_terminal te.Open te.Body e = absurd (omega arith)
 same_terminal te.TypeOpen (te.Is l) e = absurd (omega arith)
 same_terminal te.TypeOpen te.Name e = absurd (omega arith)
 same_terminal te.TypeOpen te.Open e = absurd (omega arith)
 same_terminal te.TypeOpen te.TypeOpen e = refl
 same_terminal te.TypeOpen te.Typed e = absurd (omega arith)
+same_terminal te.TypeOpen te.Body e = absurd (omega arith)
 same_terminal te.Typed (te.Is l) e = absurd (omega arith)
 same_terminal te.Typed te.Name e = absurd (omega arith)
 same_terminal te.Typed te.Open e = absurd (omega arith)
 same_terminal te.Typed te.TypeOpen e = absurd (omega arith)
 same_terminal te.Typed te.Typed e = refl
+same_terminal te.Typed te.Body e = absurd (omega arith)
+same_terminal te.Body (te.Is l) e = absurd (omega arith)
+same_terminal te.Body te.Name e = absurd (omega arith)
+same_terminal te.Body te.Open e = absurd (omega arith)
+same_terminal te.Body te.TypeOpen e = absurd (omega arith)
+same_terminal te.Body te.Typed e = absurd (omega arith)
+same_terminal te.Body te.Body e = refl
 
 abbrev symbol_eq : Symbol → Symbol → Bool
 symbol_eq (Token t a) (Token u b) = eqb (terminal_number t) (terminal_number u) && eqb (act_number a) (act_number b)
@@ -269,7 +281,7 @@ unedged : (q : ℕ) → place q ≡ nowhere → (e : Edge) → Has (edges q) e �
 unfolding edges
 unedged q none e h = none_not (subst (λ (v : List Edge). slice_get v h.0 ≡ Some e) (ap (λ (p : Place). p.edges) none) h.1)
 
-in_edges : (f : ℕ → Bool) → every_place f ≡ true → (q : ℕ) (e : Edge) → Has (edges q) e → f q ≡ true
+pub in_edges : (f : ℕ → Bool) → every_place f ≡ true → (q : ℕ) (e : Edge) → Has (edges q) e → f q ≡ true
 in_edges f t q e h = elim (either q) [ inl none ↦ absurd (unedged q none e h) | inr has ↦ every_has f (numbers 0 places) t q has ]
 
 kind_has : (y : ℕ) (ys : List ℕ) → kind_in y ys ≡ true → Has ys y
@@ -425,7 +437,7 @@ home_first z i has = elim (either z) [
 -- from places to productions
 module _ (cs : List Lexeme) (h : ℕ) (f : (g : Nonterminal) (z : ℕ) (sa : Scope) (t : Tree) (sw : Scope) → At cs h g z sa t sw → Derived cs h g sa t sw) where
   same_reads : (s : Symbol) (y : ℕ) (sa : Scope) (at : ℕ) (t : Tree) (sw : Scope) → p.Reads (At cs h) h cs s y sa at t sw → d.Reads (Derived cs h) h cs s sa at t sw
-  same_reads (Token k a) y sa at t sw r = (r.1, r.2, r.3, r.4)
+  same_reads (Token k a) y sa at t sw r = (r.1, r.2, r.3, r.4, r.5)
   same_reads (Node g) y sa at t sw r = (f g y sa t sw r.0, r.1)
 
   fit_reads : (x s : Symbol) (y : ℕ) → Narrower x s y → (sa : Scope) (at : ℕ) (t : Tree) (sw : Scope) → p.Reads (At cs h) h cs s y sa at t sw → d.Reads (Derived cs h) h cs x sa at t sw
@@ -524,7 +536,7 @@ record Through (D : Nonterminal → ℕ → Scope → Tree → Scope → Type 0)
 
 module _ (cs : List Lexeme) (h : ℕ) (f : (g : Nonterminal) (sa : Scope) (t : Tree) (sw : Scope) → Derived cs h g sa t sw → (z : ℕ) × At cs h g z sa t sw) where
   reads_back : (x : Symbol) (sa : Scope) (at : ℕ) (t : Tree) (sw : Scope) → d.Reads (Derived cs h) h cs x sa at t sw → (y : ℕ) × Way x y × p.Reads (At cs h) h cs x y sa at t sw
-  reads_back (Token k a) sa at t sw r = (0, refl, (refl, r.0, r.1, r.2, r.3))
+  reads_back (Token k a) sa at t sw r = (0, refl, (refl, r.0, r.1, r.2, r.3, r.4))
   reads_back (Node g) sa at t sw r = (let o = f g sa t sw r.0 in (o.0, o.1.0, (o.1, r.1)))
 
   wide_reads : (x s : Symbol) (y : ℕ) → Wider x s y → (sa : Scope) (at : ℕ) (t : Tree) (sw : Scope) → p.Reads (At cs h) h cs x y sa at t sw → p.Reads (At cs h) h cs s y sa at t sw
@@ -625,8 +637,8 @@ kind_of_derived cs (suc h) g sa t sw a =
     )
 
 -- the two views of a whole tree
-pub to_derives : (g : Nonterminal) (cs : List Lexeme) (t : Tree) → Whole g cs t → Spans g cs t
-to_derives g cs t w = record { after = w.after; derived = derived_of cs 512 g w.kind empty t w.after w.at; from = w.from; to = w.to }
+pub to_derives : (g : Nonterminal) (cs : List Lexeme) (sa : Scope) (first : ℕ) (t : Tree) (sw : Scope) → Whole g cs sa first t sw → SpansFrom g cs sa first t sw
+to_derives g cs sa first t sw w = record { derived = derived_of cs 512 g w.kind sa t sw w.at; from = w.from; to = w.to }
 
-pub of_derives : (g : Nonterminal) (cs : List Lexeme) (t : Tree) → Spans g cs t → Whole g cs t
-of_derives g cs t w = let o = kind_of_derived cs 512 g empty t w.after w.derived in record { kind = o.0; after = w.after; at = o.1; from = w.from; to = w.to }
+pub of_derives : (g : Nonterminal) (cs : List Lexeme) (sa : Scope) (first : ℕ) (t : Tree) (sw : Scope) → SpansFrom g cs sa first t sw → Whole g cs sa first t sw
+of_derives g cs sa first t sw w = let o = kind_of_derived cs 512 g sa t sw w.derived in record { kind = o.0; at = o.1; from = w.from; to = w.to }

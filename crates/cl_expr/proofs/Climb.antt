@@ -12,7 +12,7 @@ use Rattle.cl_tree.specs.declared.tree.Tree.{Tree}
 use Rattle.cl_expr.specs.declared.reader.Found.{Found}
 use Rattle.cl_tree.specs.declared.lexeme.Lexeme.{Lexeme}
 use Rattle.cl_tree.specs.declared.scope.Scope.{Scope}
-use Rattle.cl_tree.specs.Scopes.{empty, class_at}
+use Rattle.cl_tree.specs.Scopes.{class_at}
 use Rattle.cl_expr.proofs.Within.{class_within}
 use Rattle.cl_expr.specs.code.Table.{name_of, turn, home, corner, kinds, openers, suffixes, ends}
 use Rattle.cl_tree.specs.Derives.{Has, start, end, parts}
@@ -392,12 +392,12 @@ module _ (cs : List Lexeme) (h : ℕ) (sa : Scope) (g : Nonterminal) (at : ℕ) 
     }
 
 -- the whole answer
-pub whole_found : (cs : List Lexeme) (g : Nonterminal) (f : Found) → Parses cs 512 empty g 0 (Some f) → end f.tree ≡ length cs → Whole g cs f.tree
-whole_found cs g f p e = let o = p.found in record { kind = f.place; after = f.scope; at = (o.1, kind_le cs f.height 512 f.place empty f.tree f.scope o.0.high o.0.kind); from = o.2; to = e }
+pub whole_found : (cs : List Lexeme) (sa : Scope) (g : Nonterminal) (first : ℕ) (f : Found) → Parses cs 512 sa g first (Some f) → end f.tree ≡ length cs → Whole g cs sa first f.tree f.scope
+whole_found cs sa g first f p e = let o = p.found in record { kind = f.place; at = (o.1, kind_le cs f.height 512 f.place sa f.tree f.scope o.0.high o.0.kind); from = o.2; to = e }
 
-pub whole_only : (cs : List Lexeme) (g : Nonterminal) (r : Option Found) (t : Tree) → Parses cs 512 empty g 0 r → Whole g cs t → (z : ℕ) × (w : Scope) × Gives r t z w
-whole_only cs g r t p d =
-    (d.kind, d.after, p.only t d.kind d.after d.at d.from (λ k token has. (let l = class_within cs d.after (end t) k token in absurd (omega (arith, d.to, l)))))
+pub whole_only : (cs : List Lexeme) (sa : Scope) (g : Nonterminal) (first : ℕ) (r : Option Found) (t : Tree) (w : Scope) → Parses cs 512 sa g first r → Whole g cs sa first t w → (z : ℕ) × Gives r t z w
+whole_only cs sa g first r t w p d =
+    (d.kind, p.only t d.kind w d.at d.from (λ k token has. (let l = class_within cs w (end t) k token in absurd (omega (arith, d.to, l)))))
 
 pub takes_of : (cs : List Lexeme) (sb : Scope) (s y : ℕ) (at : ℕ) (c : Head) → GoesOn cs sb s y at → corner s ≡ Some c → Has (kinds c.goal) y
 takes_of cs sb s y at c n is = subst (λ (v : Head). Has (kinds v.goal) y) (some_is (sym n.is ∙ is)) n.takes

@@ -61,11 +61,11 @@ abbrev meets : List ℕ → List ℕ → Bool
 meets xs ys = some (λ y. kind_in y ys) xs
 
 -- of each edge and each place that it may lead to
-abbrev after : (Edge → ℕ → Bool) → Edge → Option Ways → Bool
+abbrev pub after : (Edge → ℕ → Bool) → Edge → Option Ways → Bool
 after f e None = f e e.next
 after f e (Some w) = f e w.named && f e w.other
 
-abbrev steps : (Edge → ℕ → Bool) → ℕ → Bool
+abbrev pub steps : (Edge → ℕ → Bool) → ℕ → Bool
 steps f q = every (λ e. after f e (turning e.next)) (edges q)
 
 -- the kinds of a symbol's parts
@@ -110,7 +110,7 @@ after_use f e None b t = t
 after_use f e (Some w) true t = (and_parts (f e w.named) (f e w.other) t).0
 after_use f e (Some w) false t = (and_parts (f e w.named) (f e w.other) t).1
 
-steps_use : (f : Edge → ℕ → Bool) (q : ℕ) → steps f q ≡ true → (e : Edge) (y : ℕ) → Has (edges q) e → f e (turn e.next y) ≡ true
+pub steps_use : (f : Edge → ℕ → Bool) (q : ℕ) → steps f q ≡ true → (e : Edge) (y : ℕ) → Has (edges q) e → f e (turn e.next y) ≡ true
 unfolding turn
 steps_use f q t e y h = after_use f e (turning e.next) (is_named y) (every_has (λ v. after f v (turning v.next)) (edges q) t e h)
 

@@ -6,20 +6,21 @@ use Rattle.cl_tree.specs.declared.nonterminal.Nonterminal.{Nonterminal}
 use Rattle.cl_tree.specs.declared.grammar.Symbol.{Symbol}
 use Rattle.cl_tree.specs.declared.grammar.Symbol.TheVariants.{Token, Node}
 use Rattle.cl_tree.specs.declared.grammar.Separator.{Separator}
+use Rattle.cl_tree.specs.declared.grammar.Terminal.{Terminal}
 use Rattle.cl_expr.specs.declared.table.Label.{Label}
 use Rattle.cl_tree.specs.declared.tree.Tree.{Tree, Tree-F, out-roll-Tree, roll-out-Tree}
 use Rattle.cl_tree.specs.declared.lexeme.Lexeme.{Lexeme}
 use Rattle.cl_tree.specs.declared.scope.Scope.{Scope}
 use Rattle.cl_tree.specs.Scopes.{class_at, pass}
 use Rattle.cl_expr.specs.code.Table.{name_of, turn, home, kinds, firsts}
-use Rattle.cl_tree.specs.Derives.{Has, start, end, parts, leaf}
+use Rattle.cl_tree.specs.Derives.{Has, start, end, parts, piece, last_token}
 use Rattle.cl_expr.specs.code.Paths.{name, node, Ended, Reads, ReadsAfter, Path, Kind, At}
 use Rattle.cl_expr.specs.code.Parses.{AllOf, Tall, BeginsSymbol, Begins, Enters}
 use Rattle.cl_expr.proofs.Conditions.{no_name, firsts_have}
 
 module _ (cs : List Lexeme) (D E : Nonterminal → ℕ → Scope → Tree → Scope → Type 0) (h k : ℕ) (le : h ≤ k) (f : (g : Nonterminal) (y : ℕ) (sa : Scope) (p : Tree) (sw : Scope) → D g y sa p sw → E g y sa p sw) where
   reads_map : (x : Symbol) (y : ℕ) (sa : Scope) (at : ℕ) (p : Tree) (sw : Scope) → Reads D h cs x y sa at p sw → Reads E k cs x y sa at p sw
-  reads_map (Token c a) y sa at p sw r = (r.0, omega (arith, r.1), r.2, r.3, r.4)
+  reads_map (Token c a) y sa at p sw r = (r.0, omega (arith, r.1), r.2, r.3, r.4, r.5)
   reads_map (Node g) y sa at p sw r = (f g y sa p sw r.0, r.1)
 
   pub after_map : (b : Option Separator) (x : Symbol) (y : ℕ) (sa : Scope) (at : ℕ) (p : Tree) (sw : Scope) → ReadsAfter D h cs b x y sa at p sw → ReadsAfter E k cs b x y sa at p sw
@@ -54,14 +55,14 @@ pub kind_flat : (cs : List Lexeme) (z : ℕ) (sa : Scope) (t : Tree) (sw : Scope
 unfolding Kind
 kind_flat cs z sa t sw a = a
 
-pub end_leaf : (at : ℕ) → end (leaf at) ≡ at + 1
-end_leaf at = ap (λ x. x.to) (out-roll-Tree (record { rule = _; choice = 0; from = at; to = at + 1; parts = [] }))
+pub end_piece : (cs : List Lexeme) (c : Terminal) (at : ℕ) → end (piece cs c at) ≡ last_token cs c at + 1
+end_piece cs c at = ap (λ x. x.to) (out-roll-Tree (record { rule = _; choice = 0; from = at; to = last_token cs c at + 1; parts = [] }))
 
 -- a tree of a kind is no higher than its bound
-tall_leaf : (h at : ℕ) → 1 ≤ h → Tall h (leaf at)
+tall_piece : (cs : List Lexeme) (c : Terminal) (h at : ℕ) → 1 ≤ h → Tall h (piece cs c at)
 unfolding Tall
-tall_leaf zero at l = absurd (omega arith)
-tall_leaf (suc h) at l = subst (λ (x : Tree-F Tree). AllOf (Tall h) x.parts) (sym (out-roll-Tree (record { rule = _; choice = 0; from = at; to = at + 1; parts = [] }))) tt
+tall_piece cs c zero at l = absurd (omega arith)
+tall_piece cs c (suc h) at l = subst (λ (x : Tree-F Tree). AllOf (Tall h) x.parts) (sym (out-roll-Tree (record { rule = _; choice = 0; from = at; to = last_token cs c at + 1; parts = [] }))) tt
 
 pub kind_tall : (cs : List Lexeme) (h : ℕ) (z : ℕ) (sa : Scope) (t : Tree) (sw : Scope) → Kind cs h z sa t sw → Tall h t
 unfolding Kind Tall
@@ -69,7 +70,7 @@ kind_tall cs zero z sa t sw a = a
 kind_tall cs (suc h) z sa t sw a = go (λ y s' p w' b. kind_tall cs h y s' p w' b) (parts t) (home z) sa (start t) sw a.1
   where
     one : ((y : ℕ) (s' : Scope) (p : Tree) (w' : Scope) → Kind cs h y s' p w' → Tall h p) → (x : Symbol) (y : ℕ) (s' : Scope) (at : ℕ) (p : Tree) (w' : Scope) → Reads (At cs h) h cs x y s' at p w' → Tall h p
-    one f (Token c a) y s' at p w' r = subst (Tall h) (sym r.2) (tall_leaf h at r.1)
+    one f (Token c a) y s' at p w' r = subst (Tall h) (sym r.2) (tall_piece cs c h at r.1)
     one f (Node g) y s' at p w' r = f y s' p w' r.0.1
 
     after : ((y : ℕ) (s' : Scope) (p : Tree) (w' : Scope) → Kind cs h y s' p w' → Tall h p) → (b : Option Separator) (x : Symbol) (y : ℕ) (s' : Scope) (at : ℕ) (p : Tree) (w' : Scope) → ReadsAfter (At cs h) h cs b x y s' at p w' → Tall h p

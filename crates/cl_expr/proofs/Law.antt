@@ -12,7 +12,7 @@ use Rattle.cl_expr.specs.declared.table.Label.{Label}
 use Rattle.cl_tree.specs.declared.tree.Tree.{Tree}
 use Rattle.cl_tree.specs.declared.lexeme.Lexeme.{Lexeme}
 use Rattle.cl_tree.specs.declared.scope.Scope.{Scope}
-use Rattle.cl_tree.specs.Scopes.{empty, class_at, pass}
+use Rattle.cl_tree.specs.Scopes.{class_at, pass}
 use Rattle.cl_expr.proofs.Within.{class_within}
 use Rattle.cl_expr.specs.code.Table.{edges, name_of, bars, turn, home, corner, kinds, openers, suffixes, ends}
 use Rattle.cl_tree.specs.Derives.{Has, start, end, parts}
@@ -154,8 +154,9 @@ one_tree_of cs (suc h) g sa t u z x w y a b e st su =
     one_spine cs h one g sa c.spine (subst (λ (q : Tree). Spine cs h sa g q c.place c.state u x y) (sym same.0) (subst (λ (q : ℕ). Spine cs h sa g d.first q c.state u x y) (sym same.1)
     (subst (λ (q : Scope). Spine cs h sa g d.first d.place q u x y) (sym same.2) d.spine))) a.0 b.0 st su
 
-pub one_whole : (g : Nonterminal) (cs : List Lexeme) (t u : Tree) → Whole g cs t → Whole g cs u → t ≡ u
-one_whole g cs t u d e =
-    (one_tree_of cs 512 g empty t u d.kind e.kind d.after e.after d.at e.at (d.from ∙ sym e.from)
-    (λ k token has. (let l = class_within cs d.after (end t) k token in absurd (omega (arith, d.to, l))))
-    (λ k token has. (let l = class_within cs e.after (end u) k token in absurd (omega (arith, e.to, l))))).0
+pub one_whole : (g : Nonterminal) (cs : List Lexeme) (sa : Scope) (first : ℕ) (t u : Tree) (w x : Scope) → Whole g cs sa first t w → Whole g cs sa first u x → (t ≡ u) × (w ≡ x)
+one_whole g cs sa first t u w x d e =
+    let same = one_tree_of cs 512 g sa t u d.kind e.kind w x d.at e.at (d.from ∙ sym e.from)
+    (λ k token has. (let l = class_within cs w (end t) k token in absurd (omega (arith, d.to, l))))
+    (λ k token has. (let l = class_within cs x (end u) k token in absurd (omega (arith, e.to, l)))) in
+    (same.0, same.2)

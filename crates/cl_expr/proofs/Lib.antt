@@ -4,6 +4,7 @@ mod Bridge
 mod Checks
 mod Climb
 mod Conditions
+mod External
 mod Heights
 mod Law
 mod Reading

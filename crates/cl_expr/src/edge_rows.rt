@@ -53,7 +53,7 @@ macro_rules! after {
     };
 }
 
-static EDGES: [Edge; 378] = [
+static EDGES: [Edge; 381] = [
     edge!(token!(Terminal::Name), 2),
     edge!(token!(is!(Constant)), 3),
     edge!(token!(is!(String)), 4),
@@ -432,6 +432,9 @@ static EDGES: [Edge; 378] = [
     edge!(token!(is!(String)), 401),
     edge!(token!(is!(RightParen)), 402),
     edge!(token!(is!(Semicolon)), 403),
+    edge!(node!(DeclarationSpecifiers), 405),
+    edge!(node!(Declarator), 406),
+    edge!(act!(Terminal::Body, Finish), 407),
 ];
 
 /// The edges of all places, one place after the other.

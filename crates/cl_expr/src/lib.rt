@@ -1,4 +1,4 @@
-//! Expressions with their one tree, by an engine that reads any nonterminal of the grammar's table.
+//! Expressions and external declarations with their one tree, by an engine that reads any nonterminal of the grammar's table.
 #![tactic(auto)]
 
 mod edge_rows;
@@ -11,4 +11,4 @@ mod reader;
 mod scan;
 mod table;
 
-pub use expression::{ExprTree, one_tree, parse, parse_expr};
+pub use expression::{ExprTree, Parsed, one_tree, parse, parse_expr, parse_external, parse_from};

@@ -71,7 +71,7 @@ macro_rules! turning {
     };
 }
 
-static ROWS: [Row; 404] = [
+static ROWS: [Row; 408] = [
     inner!(0, 0),
     inner!(0, 4),
     ending!(4, 4, PrimaryExpression, 0),
@@ -476,6 +476,10 @@ static ROWS: [Row; 404] = [
     inner!(375, 377),
     inner!(377, 378),
     ending!(378, 378, StaticAssertDeclaration, 0),
+    inner!(378, 379),
+    inner!(379, 380),
+    inner!(380, 381),
+    ending!(381, 381, FunctionDefinition, 0),
 ];
 
 /// The places.

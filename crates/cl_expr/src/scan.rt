@@ -3,8 +3,10 @@
 ghost use Rattle.std.specs.Prelude.{◌≡◌, ◌<◌, Some, None, true, false, IfSome, length, slice_get, ℕ};
 ghost use Rattle.cl_tree.specs.Scopes as n;
 ghost use Rattle.cl_tree.specs.Grammar.{takes};
+ghost use Rattle.cl_tree.specs.Derives as d;
 ghost use Rattle.cl_tree.specs.Derives.{Has};
 ghost use Rattle.cl_tree.specs.declared.class.Class.{Class};
+ghost use Rattle.cl_tree.specs.declared.class.Class.TheVariants as cl;
 ghost use Rattle.cl_expr.specs.code.Table as t;
 ghost use Rattle.cl_expr.specs.code.Parses.{Begins, BeginsSymbol, Enters, GoesOn};
 
@@ -69,6 +71,35 @@ pub fn taken(terminal: Terminal, class: Class) -> bool
         ),
         Terminal::TypeOpen => has_class(&[Class::TypeParen, Class::LiteralParen], class),
         Terminal::Typed => has_class(&[Class::TypedefName, Class::TypedefColon], class),
+        Terminal::Body => has_class(&[Class::LeftBrace], class),
+    }
+}
+
+/// Whether a terminal stands for a body.
+pub fn is_body(terminal: Terminal) -> bool
+    ensures { result ≡ d.is_body terminal }
+{
+    matches!(terminal, Terminal::Body)
+}
+
+/// The number of a token's partner; 0 past the end.
+pub fn partner_at(tokens: &[Lexeme], at: u32) -> u32
+    ensures { result ≡ d.partner_of (slice_get tokens.now at) }
+{
+    match tokens.get(at as usize) {
+        Some(token) => token.partner,
+        None => 0,
+    }
+}
+
+/// Whether a `}` stands at a number.
+pub fn is_brace(tokens: &[Lexeme], scope: &Scope, at: u32) -> bool
+    ensures yes { result ≡ true → n.class_at tokens.now scope.now at ≡ Some cl.RightBrace }
+    ensures no { result ≡ false → n.class_at tokens.now scope.now at ≡ Some cl.RightBrace → ⊥ }
+{
+    match class_at(tokens, scope, at) {
+        Some(class) => same_class(class, Class::RightBrace),
+        None => false,
     }
 }
 

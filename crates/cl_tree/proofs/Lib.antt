@@ -1,2 +1,3 @@
 mod BadItems
 mod Frames
+mod Learning

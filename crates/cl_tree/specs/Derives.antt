@@ -1,9 +1,12 @@
 -- What it is for a tree to derive: each of its nodes is one of a production, and its parts are what the right side asks for.
-use Rattle.std.specs.Prelude.{◌≡◌, ℕ, zero, suc, ◌+◌, ◌≤◌, List, [], ◌∷◌, ◌++◌, Option, Some, None, slice_get, length, drop, Bool, true, false, cond}
+use Rattle.std.specs.Prelude.{◌≡◌, ℕ, zero, suc, ◌+◌, ◌≤◌, List, [], ◌∷◌, ◌++◌, Option, Some, None, slice_get, length, drop, Bool, true, false, cond, ◌⊎◌}
 use Rattle.cl_tree.specs.declared.class.Class.{Class}
+use Rattle.cl_tree.specs.declared.class.Class.TheVariants as cl
 use Rattle.cl_tree.specs.declared.rule.Rule.TheVariants as ru
 use Rattle.cl_tree.specs.declared.nonterminal.Nonterminal.{Nonterminal}
+use Rattle.cl_tree.specs.declared.nonterminal.Nonterminal.TheVariants as nt
 use Rattle.cl_tree.specs.declared.grammar.Terminal.{Terminal}
+use Rattle.cl_tree.specs.declared.grammar.Terminal.TheVariants as te
 use Rattle.cl_tree.specs.declared.grammar.Symbol.{Symbol}
 use Rattle.cl_tree.specs.declared.grammar.Symbol.TheVariants.{Token, Node}
 use Rattle.cl_tree.specs.declared.grammar.Part.{Part}
@@ -19,6 +22,7 @@ use Rattle.cl_tree.specs.declared.set.NameSet.{NameSet}
 use Rattle.cl_base.specs.declared.token.PpToken.{PpToken}
 use Rattle.cl_tree.specs.Brackets.{brackets}
 use Rattle.cl_tree.specs.Lexemes.{lexemes}
+use Rattle.cl_tree.specs.Sets.{has}
 use Rattle.cl_tree.specs.Grammar.{Production, productions, units, takes}
 
 -- x stands somewhere in the list
@@ -37,6 +41,31 @@ parts t = (out-Tree t).parts
 -- the tree of the token at a number
 abbrev pub leaf : ℕ → Tree
 leaf at = roll-Tree (record { rule = ru.Token; choice = 0; from = at; to = at + 1; parts = [] })
+
+-- the tree of tokens that are not looked into
+abbrev pub hole : ℕ → ℕ → Tree
+hole from to = roll-Tree (record { rule = ru.Hole; choice = 0; from = from; to = to; parts = [] })
+
+-- the number of a token's partner
+abbrev pub partner_of : Option Lexeme → ℕ
+partner_of None = 0
+partner_of (Some l) = l.partner
+
+abbrev pub is_body : Terminal → Bool
+is_body te.Body = true
+is_body _ = false
+
+-- the last token of what a terminal stands for: the token itself, or the partner of a body's `{`
+abbrev pub last_token : List Lexeme → Terminal → ℕ → ℕ
+last_token ts k at = cond (is_body k) (partner_of (slice_get ts at)) at
+
+-- the tree of it: a leaf, or a body's one
+abbrev pub piece : List Lexeme → Terminal → ℕ → Tree
+piece ts k at = roll-Tree (record { rule = cond (is_body k) ru.Hole ru.Token; choice = 0; from = at; to = last_token ts k at + 1; parts = [] })
+
+-- a body's `{` has its partner `}` after it
+abbrev pub Closed : List Lexeme → Scope → Terminal → ℕ → Type 0
+Closed ts s k at = is_body k ≡ true → (at + 1 ≤ last_token ts k at) × (class_at ts s (last_token ts k at) ≡ Some cl.RightBrace)
 
 -- all of these may be left out
 abbrev pub left_out : List Part → Bool
@@ -87,7 +116,8 @@ barred (Some k) = takes k
 module _ (D : Nonterminal → Scope → Tree → Scope → Type 0) (h : ℕ) (ts : List Lexeme) where
   -- the tree is what a symbol stands for, from a token on, of a height of at most h, where s is declared before it and w after it
   abbrev pub Reads : Symbol → Scope → ℕ → Tree → Scope → Type 0
-  Reads (Token k a) s at p w = (1 ≤ h) × (p ≡ leaf at) × ((c : Class) × (class_at ts s at ≡ Some c) × Has (takes k) c) × (w ≡ pass ts s a at)
+  Reads (Token k a) s at p w =
+      (1 ≤ h) × (p ≡ piece ts k at) × ((c : Class) × (class_at ts s at ≡ Some c) × Has (takes k) c) × (w ≡ pass ts s a at) × Closed ts s k at
   Reads (Node g) s at p w = D g s p w × (start p ≡ at)
 
   -- the same after a separator, if one is asked for
@@ -116,13 +146,20 @@ unfoldable pub Derived : List Lexeme → ℕ → Nonterminal → Scope → Tree 
 Derived ts zero g s t w = ⊥
 Derived ts (suc h) g s t w = (r : Production) × Has productions r × StandsFor g r.of × IsNode (Derived ts h) h ts r s t w
 
--- the tree is one of the nonterminal on all of the tokens, of a height of at most 512
-pub record Spans (g : Nonterminal) (ts : List Lexeme) (t : Tree) : Type 0 where
-  pub after : Scope
-  pub derived : Derived ts 512 g empty t after
-  pub from : start t ≡ 0
+-- the tree is one of the nonterminal on all of the tokens from one on, of a height of at most 512; s is declared before it, w after it
+pub record SpansFrom (g : Nonterminal) (ts : List Lexeme) (s : Scope) (at : ℕ) (t : Tree) (w : Scope) : Type 0 where
+  pub derived : Derived ts 512 g s t w
+  pub from : start t ≡ at
   pub to : end t ≡ length ts
+
+-- the same on all of the tokens
+abbrev pub Spans : Nonterminal → List Lexeme → Tree → Type 0
+Spans g ts t = (w : Scope) × SpansFrom g ts empty 0 t w
+
+-- external-declaration (6.9): a function definition or a declaration, on all of the tokens from one on
+abbrev pub External : List Lexeme → Scope → ℕ → Tree → Scope → Type 0
+External ts s at t w = SpansFrom nt.FunctionDefinition ts s at t w ⊎ SpansFrom nt.Declaration ts s at t w
 
 -- the tree is one of the nonterminal on all of these tokens, where these names are typedef names before the first
 abbrev pub Derives : Nonterminal → NameSet → List PpToken → Tree → Type 0
-Derives g typedefs tokens t = Spans g (lexemes typedefs (brackets tokens) tokens) t
+Derives g typedefs tokens t = Spans g (lexemes (has typedefs) (brackets tokens) tokens) t

@@ -1,4 +1,4 @@
--- The grammar of expressions and declarations: N1570 A.2.1 and A.2.2, in the standard's order and with its section numbers.
+-- The grammar of expressions, declarations and function definitions: N1570 A.2.1, A.2.2 and A.2.4, in the standard's order and with its section numbers.
 -- Written by tools/grammar/emit_tree.py from tools/grammar/annex.py.
 use Rattle.std.specs.Prelude.{ℕ, List, [], ◌∷◌, ◌++◌, Option, Some, None, cond, slice_range}
 use Rattle.cl_tree.specs.declared.class.Class.{Class}
@@ -35,6 +35,7 @@ takes te.Name = cl.Ident ∷ cl.IdentColon ∷ cl.TypedefName ∷ cl.TypedefColo
 takes te.Open = cl.LeftParen ∷ cl.TypeParen ∷ cl.LiteralParen ∷ []
 takes te.TypeOpen = cl.TypeParen ∷ cl.LiteralParen ∷ []
 takes te.Typed = cl.TypedefName ∷ cl.TypedefColon ∷ []
+takes te.Body = cl.LeftBrace ∷ []
 
 abbrev pub is : Class → Terminal
 is k = te.Is k
@@ -300,6 +301,8 @@ productions =
     production nt.Designator ru.Designator 1 (one (t (is cl.Dot)) ∷ one (t te.Name) ∷ []) ∷
     -- static_assert-declaration (6.7.10)
     production nt.StaticAssertDeclaration ru.StaticAssertDeclaration 0 (one (t (is cl.StaticAssert)) ∷ one (t te.Open) ∷ one (n nt.ConstantExpression) ∷ one (t (is cl.Comma)) ∷ one (t (is cl.String)) ∷ many (t (is cl.String)) ∷ one (t (is cl.RightParen)) ∷ one (t (is cl.Semicolon)) ∷ []) ∷
+    -- function-definition (6.9.1)
+    production nt.FunctionDefinition ru.FunctionDefinition 0 (one (n nt.DeclarationSpecifiers) ∷ one (n nt.Declarator) ∷ one (act te.Body ac.Finish) ∷ []) ∷
     []
 
 -- the productions whose right side is one nonterminal: they make no node

@@ -1,14 +1,13 @@
 -- Tokens as the grammar reads them.
-use Rattle.std.specs.Prelude.{ℕ, ◌+◌, List, [], ◌∷◌, Option, Some, None, slice_get, Bool, false, ◌||◌, nat_eq, codes}
+use Rattle.std.specs.Prelude.{ℕ, ◌+◌, List, [], ◌∷◌, Option, Some, None, ◌++◌, slice_get, slice_range, length, Bool, false, ◌||◌, nat_eq, codes}
 use Rattle.std.specs.Cmp.Lexicographic.{pointwise}
 use Rattle.cl_base.specs.declared.token.PpToken.{PpToken}
 use Rattle.cl_tree.specs.declared.shape.Ahead.{Ahead}
 use Rattle.cl_tree.specs.declared.shape.Ahead.TheVariants as ahead
 use Rattle.cl_tree.specs.declared.lexeme.Lexeme.{Lexeme}
-use Rattle.cl_tree.specs.declared.set.NameSet.{NameSet}
+use Rattle.cl_tree.specs.Brackets.{partner_by}
 use Rattle.cl_tree.specs.Shapes.{shape_of}
 use Rattle.cl_tree.specs.Spellings.{sort_of}
-use Rattle.cl_tree.specs.Sets.{has}
 
 abbrev pub ahead_of : Option PpToken → Ahead
 ahead_of None = ahead.Other
@@ -33,18 +32,23 @@ literal_by tokens (Some partner) = is_brace tokens (partner + 1)
 abbrev pub is_literal : List PpToken → List ℕ → ℕ → Bool
 is_literal tokens pairs i = literal_by tokens (slice_get pairs i)
 
--- a token, where these names are typedef names before the first one and these are the partners of the brackets
-abbrev pub lexeme_of : NameSet → List ℕ → List PpToken → ℕ → PpToken → Lexeme
+-- a token, where it is said which names are typedef names before the first one, and these are the partners of the brackets
+abbrev pub lexeme_of : (List ℕ → Bool) → List ℕ → List PpToken → ℕ → PpToken → Lexeme
 lexeme_of typedefs pairs tokens i token = record {
   shape = shape_of (sort_of token).raw (ahead_at tokens (i + 1)) (is_literal tokens pairs i);
-  typed = has typedefs token.text;
+  typed = typedefs token.text;
+  partner = partner_by (slice_get pairs i);
   text = token.text;
 }
 
-abbrev pub lexemes_from : NameSet → List ℕ → List PpToken → ℕ → List PpToken → List Lexeme
+abbrev pub lexemes_from : (List ℕ → Bool) → List ℕ → List PpToken → ℕ → List PpToken → List Lexeme
 lexemes_from typedefs pairs tokens i [] = []
 lexemes_from typedefs pairs tokens i (token ∷ rest) = lexeme_of typedefs pairs tokens i token ∷ lexemes_from typedefs pairs tokens (i + 1) rest
 
+-- the tokens up to one, after those that were read: it is said which names are typedef names before the first of the others
+abbrev pub lexemes_to : (List ℕ → Bool) → List ℕ → List PpToken → List Lexeme → ℕ → List Lexeme
+lexemes_to typedefs pairs tokens read to = read ++ lexemes_from typedefs pairs tokens (length read) (slice_range tokens (length read) to)
+
 -- all of the tokens
-unfoldable pub lexemes : NameSet → List ℕ → List PpToken → List Lexeme
+unfoldable pub lexemes : (List ℕ → Bool) → List ℕ → List PpToken → List Lexeme
 lexemes typedefs pairs tokens = lexemes_from typedefs pairs tokens 0 tokens

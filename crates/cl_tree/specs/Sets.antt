@@ -1,5 +1,5 @@
 -- Sets of names.
-use Rattle.std.specs.Prelude.{◌≡◌, ℕ, List, Bool, true, cond}
+use Rattle.std.specs.Prelude.{◌≡◌, ℕ, List, Bool, true, false, cond}
 use Rattle.std.specs.Cmp.Lexicographic.{slice_cmp}
 use Rattle.std.specs.Ordering.{nat_cmp, is_eq}
 use Rattle.std.specs.BTreeSet.{contains}
@@ -16,3 +16,7 @@ is_name name other = is_eq (slice_cmp nat_cmp name other)
 -- the name is in the set now, and all else is as it was
 abbrev pub IsAdded : NameSet → NameSet → List ℕ → Type 0
 IsAdded old new name = (other : List ℕ) → has new other ≡ cond (is_name name other) true (has old other)
+
+-- the name is no longer in the set, and all else is as it was
+abbrev pub IsTaken : NameSet → NameSet → List ℕ → Type 0
+IsTaken old new name = (other : List ℕ) → has new other ≡ cond (is_name name other) false (has old other)

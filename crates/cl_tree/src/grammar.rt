@@ -1,4 +1,4 @@
-//! The grammar of expressions and declarations: N1570 A.2.1 and A.2.2, in the standard's order.
+//! The grammar of expressions, declarations and function definitions: N1570 A.2.1, A.2.2 and A.2.4, in the standard's order.
 
 use crate::class::Class;
 use crate::nonterminal::Nonterminal;
@@ -17,6 +17,8 @@ pub enum Terminal {
     TypeOpen,
     /// A typedef name.
     Typed,
+    /// `{` with all up to its partner: a body, which is read as one part.
+    Body,
 }
 
 /// What reading a token does to the names that are declared.

@@ -1,7 +1,9 @@
 //! Tokens as the grammar reads them.
 
-ghost use Rattle.std.specs.Prelude.{◌≡◌, ◌<◌, ◌^◌, IfOk, length};
+ghost use Rattle.std.specs.Prelude.{◌≡◌, ◌<◌, ◌≤◌, ◌^◌, IfOk, length, slice_get};
+ghost use Rattle.cl_tree.specs.Brackets as b;
 ghost use Rattle.cl_tree.specs.Lexemes as l;
+ghost use Rattle.cl_tree.specs.Sets.{has};
 
 use crate::set::NameSet;
 use crate::shape::{Ahead, Shape, shape_of};
@@ -9,12 +11,13 @@ use crate::spelling::sort_of;
 use cl_base::{Duplicate, List, Mem, Name, PpToken};
 use std::alloc::Global;
 
-/// A token as the grammar reads it: its shape, whether its spelling is a typedef name before the first token, and its
-/// spelling.
+/// A token as the grammar reads it: its shape, whether its spelling is a typedef name before the first token of its item, the
+/// number of its bracket's partner (its own without one), and its spelling.
 #[derive(Drop)]
 pub struct Lexeme {
     pub shape: Shape,
     pub typed: bool,
+    pub partner: u32,
     pub text: Name,
 }
 
@@ -49,6 +52,16 @@ fn is_literal(tokens: &[PpToken], pairs: &[u32], at: usize) -> bool
     }
 }
 
+/// The partner of the token at a number; 0 past the end.
+fn partner_of(pairs: &[u32], at: usize) -> u32
+    ensures { result ≡ b.partner_by (slice_get pairs.now at) }
+{
+    match pairs.get(at) {
+        Some(partner) => *partner,
+        None => 0,
+    }
+}
+
 /// A token as the grammar reads it.
 fn read_lexeme(
     alloc: Global,
@@ -59,7 +72,7 @@ fn read_lexeme(
     at: usize,
 ) -> Mem<Lexeme>
     requires { at < 2 ^ 32 }
-    ensures { IfOk result (λ it. it ≡ l.lexeme_of typedefs.now pairs.now tokens.now at token.now) }
+    ensures { IfOk result (λ it. it ≡ l.lexeme_of (has typedefs.now) pairs.now tokens.now at token.now) }
 {
     let sort = sort_of(token);
     let shape = shape_of(
@@ -69,7 +82,13 @@ fn read_lexeme(
     );
     let typed = typedefs.has(&token.text);
     let text = token.text.duplicate(alloc)?;
-    Ok(Lexeme { shape, typed, text })
+    let partner = partner_of(pairs, at);
+    Ok(Lexeme {
+        shape,
+        typed,
+        partner,
+        text,
+    })
 }
 
 /// The tokens as the grammar reads them, where `pairs` are the partners of the brackets and these names are typedef names
@@ -82,11 +101,34 @@ pub fn lexemes(
     typedefs: &NameSet,
 ) -> Mem<List<Lexeme>>
     requires { length tokens.now < 2 ^ 32 }
-    ensures { IfOk result (λ all. all ≡ l.lexemes typedefs.now pairs.now tokens.now) }
+    ensures { IfOk result (λ all. all ≡ l.lexemes (has typedefs.now) pairs.now tokens.now) }
 {
     let mut all = List::new(alloc);
     let mut at: usize = 0;
     for token in tokens {
+        all.push(read_lexeme(alloc, tokens, pairs, typedefs, token, at)?)?;
+        at += 1;
+    }
+    Ok(all)
+}
+
+/// The tokens up to one, after those that were read before: these names are typedef names before the first of the others.
+pub fn lexemes_to(
+    alloc: Global,
+    read: List<Lexeme>,
+    tokens: &[PpToken],
+    pairs: &[u32],
+    typedefs: &NameSet,
+    to: usize,
+) -> Mem<List<Lexeme>>
+    requires short { length tokens.now < 2 ^ 32 }
+    requires from { length read ≤ to }
+    requires to { to ≤ length tokens.now }
+    ensures { IfOk result (λ all. all ≡ l.lexemes_to (has typedefs.now) pairs.now tokens.now read to) }
+{
+    let mut all = read;
+    let mut at = all.len();
+    for token in &tokens[at..to] {
         all.push(read_lexeme(alloc, tokens, pairs, typedefs, token, at)?)?;
         at += 1;
     }

@@ -1,4 +1,4 @@
-/// A nonterminal of the grammar: those of N1570 A.2.1 and A.2.2, and some that tell apart where one of them stands.
+/// A nonterminal of the grammar: those of N1570 A.2.1, A.2.2 and A.2.4, and some that tell apart where one of them stands.
 #[derive(Clone, Copy, Debug, PartialEq, Eq)]
 pub enum Nonterminal {
     /// primary-expression (6.5.1).
@@ -125,6 +125,8 @@ pub enum Nonterminal {
     Designator,
     /// static_assert-declaration (6.7.10).
     StaticAssertDeclaration,
+    /// function-definition (6.9.1).
+    FunctionDefinition,
     /// A specifier of a declaration that is no type specifier (6.7).
     OtherSpecifier,
     /// A type specifier that is no typedef name: any after another one (6.7.2).

@@ -43,7 +43,7 @@ macro_rules! again {
     };
 }
 
-static PARTS: [Part; 415] = [
+static PARTS: [Part; 418] = [
     Part::One(token!(Terminal::Name)),
     Part::One(token!(is!(Constant))),
     Part::One(token!(is!(String))),
@@ -459,6 +459,9 @@ static PARTS: [Part; 415] = [
     Part::Many(token!(is!(String))),
     Part::One(token!(is!(RightParen))),
     Part::One(token!(is!(Semicolon))),
+    Part::One(node!(DeclarationSpecifiers)),
+    Part::One(node!(Declarator)),
+    Part::One(act!(Terminal::Body, Finish)),
 ];
 
 static AGAIN: [Again; 9] = [

@@ -70,7 +70,7 @@ macro_rules! unit {
     };
 }
 
-static PRODUCTIONS: [Production; 159] = [
+static PRODUCTIONS: [Production; 160] = [
     made!(PrimaryExpression, PrimaryExpression, 0, 0, 1),
     made!(PrimaryExpression, PrimaryExpression, 1, 1, 2),
     made!(PrimaryExpression, PrimaryExpression, 2, 2, 4),
@@ -332,6 +332,7 @@ static PRODUCTIONS: [Production; 159] = [
         407,
         415
     ),
+    made!(FunctionDefinition, FunctionDefinition, 0, 415, 418),
 ];
 
 static UNITS: [Unit; 47] = [

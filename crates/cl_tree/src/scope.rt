@@ -1,13 +1,16 @@
 //! The names that are typedef names at a place of a text, and the classes of tokens that follow from them.
 
-ghost use Rattle.std.specs.Prelude.{◌≡◌, ◌∷◌, [], ◌++◌, ◌<◌, ◌^◌, IfOk, length, slice_get, take};
+ghost use Rattle.std.specs.Prelude.{◌≡◌, ◌∷◌, [], ◌++◌, ◌<◌, ◌^◌, IfOk, length, slice_get, take, List, ℕ, cond, nat_eq};
 ghost use Rattle.cl_tree.specs.Scopes as s;
+ghost use Rattle.cl_tree.specs.Sets.{has, IsAdded, IsTaken};
+ghost use Rattle.std.specs.Cmp.Lexicographic.{pointwise};
 
 use crate::class::Class;
 use crate::grammar::Act;
 use crate::lexeme::Lexeme;
+use crate::set::NameSet;
 use crate::shape::Shape;
-use cl_base::{List, Mem};
+use cl_base::{List, Mem, Name};
 use std::alloc::Global;
 
 /// A declaration that changes what a name is: the number of the token that is its name, and whether it is a typedef name
@@ -301,4 +304,45 @@ pub fn pass(tokens: &[Lexeme], scope: Scope, act: Act, at: u32) -> Mem<Scope>
             Ok(shut(after))
         }
     }
+}
+
+/// These names and one more.
+fn with_name(alloc: Global, names: NameSet, name: &Name) -> Mem<NameSet>
+    ensures { IfOk result (λ after. IsAdded names after name.now) }
+{
+    let mut after = names;
+    after.add(alloc, name)?;
+    Ok(after)
+}
+
+/// These names but for one.
+fn without_name(names: NameSet, name: &Name) -> NameSet
+    ensures { IsTaken names result name.now }
+{
+    let mut after = names;
+    after.remove(name);
+    after
+}
+
+/// The typedef names after a declaration, where these are so before it.
+fn learn(alloc: Global, names: NameSet, tokens: &[Lexeme], change: Change) -> Mem<NameSet>
+    ensures { IfOk result (λ after. (name : List ℕ) → has after name ≡ cond (pointwise nat_eq (s.text_at tokens.now change.at) name) change.typed (has names name)) }
+{
+    let name = Name::new(alloc, text_at(tokens, change.at))?;
+    if change.typed {
+        with_name(alloc, names, &name)
+    } else {
+        Ok(without_name(names, &name))
+    }
+}
+
+/// The typedef names after these declarations, where these are so before them.
+pub fn learned(alloc: Global, names: NameSet, tokens: &[Lexeme], changes: &[Change]) -> Mem<NameSet>
+    ensures { IfOk result (λ after. (name : List ℕ) → has after name ≡ s.known tokens.now changes.now (has names name) name) }
+{
+    let mut after = names;
+    for change in changes {
+        after = learn(alloc, after, tokens, *change)?;
+    }
+    Ok(after)
 }

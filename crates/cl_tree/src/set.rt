@@ -1,7 +1,7 @@
 //! Sets of names.
 
 ghost use Rattle.std.specs.Prelude.{◌≡◌, List, ℕ, Bool, false, OnOk, OnErr};
-ghost use Rattle.cl_tree.specs.Sets.{has, IsAdded};
+ghost use Rattle.cl_tree.specs.Sets.{has, IsAdded, IsTaken};
 
 use cl_base::{Duplicate, Mem, Name};
 use std::alloc::Global;
@@ -31,6 +31,13 @@ impl NameSet {
         let name = name.duplicate(alloc)?;
         self.names.insert(name)?;
         Ok(())
+    }
+
+    /// Takes a name out.
+    pub fn remove(&mut self, name: &Name)
+        ensures { IsTaken self.old self.new name.now }
+    {
+        self.names.remove(name);
     }
 
     /// Whether a name is one of them.

@@ -103,6 +103,7 @@ fn longer(alloc: Global, lines: &[String], part: Part) -> Mem<Vec<String>> {
 
 fn with(alloc: Global, line: &String, symbol: Symbol) -> Mem<String> {
     let text = match symbol {
+        Symbol::Token(Terminal::Body, _) => format!(in alloc; "{line} CompoundStatement")?,
         Symbol::Token(terminal, _) => format!(in alloc; "{line} {:?}", plain(terminal))?,
         Symbol::Node(goal) => format!(in alloc; "{line} {:?}", standard(goal))?,
     };
@@ -114,6 +115,7 @@ fn plain(terminal: Terminal) -> Class {
     match terminal {
         Terminal::Name | Terminal::Typed => Class::Ident,
         Terminal::Open | Terminal::TypeOpen => Class::LeftParen,
+        Terminal::Body => Class::LeftBrace,
         Terminal::Is(Class::TypeParen) | Terminal::Is(Class::LiteralParen) => Class::LeftParen,
         Terminal::Is(Class::LastComma) | Terminal::Is(Class::DesignationComma) => Class::Comma,
         Terminal::Is(Class::StarBracket) => Class::Star,

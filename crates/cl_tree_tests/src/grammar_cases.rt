@@ -1,4 +1,4 @@
-//! Each alternative of N1570 A.2.1 and A.2.2, with and without each of its optional parts, as typed in from the standard; of a list
+//! Each alternative of N1570 A.2.1, A.2.2 and A.2.4, with and without each of its optional parts, as typed in from the standard; of a list
 //! rule, one member. Written by tools/grammar/standard.py. The rules for specifiers stand apart: here they are one node.
 
 static FIRST: [&[u8]; 42] = [
@@ -105,6 +105,7 @@ static THIRD: [&[u8]; 42] = [
     b"ExclusiveOrExpression unit: AndExpression",
     b"Expression 1: Expression Comma AssignmentExpression",
     b"Expression unit: AssignmentExpression",
+    b"FunctionDefinition 0: DeclarationSpecifiers Declarator CompoundStatement",
     b"FunctionSpecifier 0: Inline",
     b"FunctionSpecifier 1: Noreturn",
     b"GenericAssocList 0: GenericAssociation",
@@ -141,7 +142,6 @@ static THIRD: [&[u8]; 42] = [
     b"Pointer 1: Star Pointer",
     b"Pointer 1: Star TypeQualifierList Pointer",
     b"PostfixExpression 1: PostfixExpression LeftBracket Expression RightBracket",
-    b"PostfixExpression 2: PostfixExpression LeftParen ArgumentExpressionList RightParen",
 ];
 
 pub fn third() -> &'static [&'static [u8]] {
@@ -149,6 +149,7 @@ pub fn third() -> &'static [&'static [u8]] {
 }
 
 static FOURTH: [&[u8]; 42] = [
+    b"PostfixExpression 2: PostfixExpression LeftParen ArgumentExpressionList RightParen",
     b"PostfixExpression 2: PostfixExpression LeftParen RightParen",
     b"PostfixExpression 3: PostfixExpression Dot Ident",
     b"PostfixExpression 4: PostfixExpression Arrow Ident",
@@ -190,14 +191,14 @@ static FOURTH: [&[u8]; 42] = [
     b"StructOrUnionSpecifier 0: StructOrUnion Ident LeftBrace StructDeclarationList RightBrace",
     b"StructOrUnionSpecifier 0: StructOrUnion LeftBrace StructDeclarationList RightBrace",
     b"StructOrUnionSpecifier 1: StructOrUnion Ident",
-    b"TypeName 0: SpecifierQualifierList AbstractDeclarator",
 ];
 
 pub fn fourth() -> &'static [&'static [u8]] {
     &FOURTH
 }
 
-static FIFTH: [&[u8]; 34] = [
+static FIFTH: [&[u8]; 35] = [
+    b"TypeName 0: SpecifierQualifierList AbstractDeclarator",
     b"TypeName unit: SpecifierQualifierList",
     b"TypeQualifier 0: Const",
     b"TypeQualifier 1: Restrict",

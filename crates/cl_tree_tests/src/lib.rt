@@ -3,6 +3,8 @@
 #![tactic(auto)]
 
 #[cfg(test)]
+mod externals;
+#[cfg(test)]
 mod grammar;
 #[cfg(test)]
 mod grammar_cases;

@@ -9,8 +9,8 @@ use Rattle.cl_tree.specs.declared.tree.Tree.{Tree, out-Tree, roll-Tree}
 use Rattle.cl_tree.specs.declared.lexeme.Lexeme.{Lexeme}
 use Rattle.cl_tree.specs.declared.scope.Scope.{Scope}
 use Rattle.cl_tree.specs.Grammar.{takes}
-use Rattle.cl_tree.specs.Scopes.{empty, class_at, pass}
-use Rattle.cl_tree.specs.Derives.{Has, start, end, parts, leaf}
+use Rattle.cl_tree.specs.Scopes.{class_at, pass}
+use Rattle.cl_tree.specs.Derives.{Has, start, end, parts, piece, Closed}
 use Rattle.cl_expr.specs.declared.table.Edge.{Edge}
 use Rattle.cl_expr.specs.declared.table.Label.{Label}
 use Rattle.cl_expr.specs.code.Table.{edges, name_of, bars, turn, home, kinds}
@@ -29,7 +29,7 @@ Ended cs s z to n = (name_of z ≡ Some n) × ((k : Class) → class_at cs s to 
 module _ (D : Nonterminal → ℕ → Scope → Tree → Scope → Type 0) (h : ℕ) (cs : List Lexeme) where
   -- a part that a symbol stands for, of a kind and with a height of at most h, and what is declared after it
   abbrev pub Reads : Symbol → ℕ → Scope → ℕ → Tree → Scope → Type 0
-  Reads (Token k a) y s at p w = (y ≡ 0) × (1 ≤ h) × (p ≡ leaf at) × ((c : Class) × (class_at cs s at ≡ Some c) × Has (takes k) c) × (w ≡ pass cs s a at)
+  Reads (Token k a) y s at p w = (y ≡ 0) × (1 ≤ h) × (p ≡ piece cs k at) × ((c : Class) × (class_at cs s at ≡ Some c) × Has (takes k) c) × (w ≡ pass cs s a at) × Closed cs s k at
   Reads (Node g) y s at p w = D g y s p w × (start p ≡ at)
 
   -- the same after a separator, if one is asked for
@@ -52,10 +52,9 @@ Kind cs (suc h) z s t w =
 abbrev pub At : List Lexeme → ℕ → Nonterminal → ℕ → Scope → Tree → Scope → Type 0
 At cs h g z s t w = Has (kinds g) z × Kind cs h z s t w
 
--- the tree is one of the nonterminal on all of the tokens, of a height of at most 512
-pub record Whole (g : Nonterminal) (cs : List Lexeme) (t : Tree) : Type 0 where
+-- the tree is one of the nonterminal on all of the tokens from one on, of a height of at most 512; s is declared before it, w after it
+pub record Whole (g : Nonterminal) (cs : List Lexeme) (s : Scope) (first : ℕ) (t : Tree) (w : Scope) : Type 0 where
   pub kind : ℕ
-  pub after : Scope
-  pub at : At cs 512 g kind empty t after
-  pub from : start t ≡ 0
+  pub at : At cs 512 g kind s t w
+  pub from : start t ≡ first
   pub to : end t ≡ length cs

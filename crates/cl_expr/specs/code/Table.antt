@@ -885,6 +885,14 @@ places =
     row (e (Token (te.Is cl.Semicolon) ac.Stay) 403 ∷ []) None None None None false 396 [] (i 158 7 ∷ []) ∷
     -- 403: StaticAssertDeclaration -> StaticAssert Open ConstantExpression Comma String String* RightParen Semicolon .
     row [] (label ru.StaticAssertDeclaration 0) None None None false 396 [] (i 158 8 ∷ []) ∷
+    -- 404: FunctionDefinition -> . DeclarationSpecifiers Declarator Body
+    row (e (Node nt.DeclarationSpecifiers) 405 ∷ []) None None None None false 404 [] (i 159 0 ∷ []) ∷
+    -- 405: FunctionDefinition -> DeclarationSpecifiers . Declarator Body
+    row (e (Node nt.Declarator) 406 ∷ []) None None None None false 404 [] (i 159 1 ∷ []) ∷
+    -- 406: FunctionDefinition -> DeclarationSpecifiers Declarator . Body
+    row (e (Token te.Body ac.Finish) 407 ∷ []) None None None None false 404 [] (i 159 2 ∷ []) ∷
+    -- 407: FunctionDefinition -> DeclarationSpecifiers Declarator Body .
+    row [] (label ru.FunctionDefinition 0) None None None false 404 [] (i 159 3 ∷ []) ∷
     []
 
 unfoldable pub goals : List Goal
@@ -1013,6 +1021,8 @@ goals =
     record { kinds = (393 ∷ 395 ∷ []); openers = (390 ∷ []); suffixes = []; firsts = (cl.LeftBracket ∷ cl.Dot ∷ []); goes = [] } ∷
     -- StaticAssertDeclaration
     record { kinds = (403 ∷ []); openers = (396 ∷ []); suffixes = []; firsts = (cl.StaticAssert ∷ []); goes = [] } ∷
+    -- FunctionDefinition
+    record { kinds = (407 ∷ []); openers = (404 ∷ []); suffixes = []; firsts = (cl.TypedefName ∷ cl.TypedefColon ∷ cl.Typedef ∷ cl.Extern ∷ cl.Static ∷ cl.ThreadLocal ∷ cl.Auto ∷ cl.Register ∷ cl.Void ∷ cl.Char ∷ cl.Short ∷ cl.Int ∷ cl.Long ∷ cl.Float ∷ cl.Double ∷ cl.Signed ∷ cl.Unsigned ∷ cl.Bool ∷ cl.Struct ∷ cl.Union ∷ cl.Enum ∷ cl.Const ∷ cl.Restrict ∷ cl.Volatile ∷ cl.Atomic ∷ cl.AtomicParen ∷ cl.Inline ∷ cl.Noreturn ∷ cl.Alignas ∷ []); goes = [] } ∷
     -- OtherSpecifier
     record { kinds = (173 ∷ 174 ∷ 175 ∷ 176 ∷ 177 ∷ 178 ∷ 237 ∷ 238 ∷ 239 ∷ 240 ∷ 242 ∷ 243 ∷ 248 ∷ 251 ∷ []); openers = (172 ∷ 236 ∷ 241 ∷ 244 ∷ []); suffixes = []; firsts = (cl.Typedef ∷ cl.Extern ∷ cl.Static ∷ cl.ThreadLocal ∷ cl.Auto ∷ cl.Register ∷ cl.Const ∷ cl.Restrict ∷ cl.Volatile ∷ cl.Atomic ∷ cl.Inline ∷ cl.Noreturn ∷ cl.Alignas ∷ []); goes = [] } ∷
     -- LaterTypeSpecifier
@@ -1033,7 +1043,7 @@ goals =
 
 -- the places where the productions begin, by the numbers of these
 unfoldable pub starts : List ℕ
-starts = 1 ∷ 1 ∷ 1 ∷ 1 ∷ 8 ∷ 15 ∷ 17 ∷ 17 ∷ 24 ∷ 24 ∷ 24 ∷ 24 ∷ 24 ∷ 24 ∷ 38 ∷ 38 ∷ 47 ∷ 49 ∷ 49 ∷ 49 ∷ 49 ∷ 49 ∷ 49 ∷ 65 ∷ 65 ∷ 65 ∷ 65 ∷ 65 ∷ 65 ∷ 72 ∷ 77 ∷ 77 ∷ 77 ∷ 85 ∷ 85 ∷ 91 ∷ 91 ∷ 97 ∷ 97 ∷ 97 ∷ 97 ∷ 107 ∷ 107 ∷ 113 ∷ 117 ∷ 121 ∷ 125 ∷ 129 ∷ 133 ∷ 139 ∷ 143 ∷ 143 ∷ 143 ∷ 143 ∷ 143 ∷ 143 ∷ 143 ∷ 143 ∷ 143 ∷ 143 ∷ 143 ∷ 155 ∷ 159 ∷ 163 ∷ 163 ∷ 166 ∷ 168 ∷ 172 ∷ 172 ∷ 172 ∷ 172 ∷ 172 ∷ 172 ∷ 179 ∷ 179 ∷ 179 ∷ 179 ∷ 179 ∷ 179 ∷ 179 ∷ 179 ∷ 179 ∷ 179 ∷ 190 ∷ 190 ∷ 196 ∷ 196 ∷ 199 ∷ 201 ∷ 205 ∷ 205 ∷ 208 ∷ 210 ∷ 214 ∷ 217 ∷ 217 ∷ 217 ∷ 225 ∷ 227 ∷ 227 ∷ 231 ∷ 236 ∷ 236 ∷ 236 ∷ 236 ∷ 241 ∷ 241 ∷ 244 ∷ 244 ∷ 252 ∷ 255 ∷ 255 ∷ 260 ∷ 260 ∷ 260 ∷ 260 ∷ 260 ∷ 260 ∷ 281 ∷ 286 ∷ 286 ∷ 311 ∷ 311 ∷ 311 ∷ 311 ∷ 311 ∷ 311 ∷ 332 ∷ 332 ∷ 336 ∷ 338 ∷ 342 ∷ 344 ∷ 344 ∷ 349 ∷ 351 ∷ 281 ∷ 286 ∷ 286 ∷ 286 ∷ 286 ∷ 286 ∷ 354 ∷ 354 ∷ 354 ∷ 354 ∷ 286 ∷ 286 ∷ 354 ∷ 354 ∷ 374 ∷ 376 ∷ 376 ∷ 382 ∷ 385 ∷ 388 ∷ 390 ∷ 390 ∷ 396 ∷ []
+starts = 1 ∷ 1 ∷ 1 ∷ 1 ∷ 8 ∷ 15 ∷ 17 ∷ 17 ∷ 24 ∷ 24 ∷ 24 ∷ 24 ∷ 24 ∷ 24 ∷ 38 ∷ 38 ∷ 47 ∷ 49 ∷ 49 ∷ 49 ∷ 49 ∷ 49 ∷ 49 ∷ 65 ∷ 65 ∷ 65 ∷ 65 ∷ 65 ∷ 65 ∷ 72 ∷ 77 ∷ 77 ∷ 77 ∷ 85 ∷ 85 ∷ 91 ∷ 91 ∷ 97 ∷ 97 ∷ 97 ∷ 97 ∷ 107 ∷ 107 ∷ 113 ∷ 117 ∷ 121 ∷ 125 ∷ 129 ∷ 133 ∷ 139 ∷ 143 ∷ 143 ∷ 143 ∷ 143 ∷ 143 ∷ 143 ∷ 143 ∷ 143 ∷ 143 ∷ 143 ∷ 143 ∷ 155 ∷ 159 ∷ 163 ∷ 163 ∷ 166 ∷ 168 ∷ 172 ∷ 172 ∷ 172 ∷ 172 ∷ 172 ∷ 172 ∷ 179 ∷ 179 ∷ 179 ∷ 179 ∷ 179 ∷ 179 ∷ 179 ∷ 179 ∷ 179 ∷ 179 ∷ 190 ∷ 190 ∷ 196 ∷ 196 ∷ 199 ∷ 201 ∷ 205 ∷ 205 ∷ 208 ∷ 210 ∷ 214 ∷ 217 ∷ 217 ∷ 217 ∷ 225 ∷ 227 ∷ 227 ∷ 231 ∷ 236 ∷ 236 ∷ 236 ∷ 236 ∷ 241 ∷ 241 ∷ 244 ∷ 244 ∷ 252 ∷ 255 ∷ 255 ∷ 260 ∷ 260 ∷ 260 ∷ 260 ∷ 260 ∷ 260 ∷ 281 ∷ 286 ∷ 286 ∷ 311 ∷ 311 ∷ 311 ∷ 311 ∷ 311 ∷ 311 ∷ 332 ∷ 332 ∷ 336 ∷ 338 ∷ 342 ∷ 344 ∷ 344 ∷ 349 ∷ 351 ∷ 281 ∷ 286 ∷ 286 ∷ 286 ∷ 286 ∷ 286 ∷ 354 ∷ 354 ∷ 354 ∷ 354 ∷ 286 ∷ 286 ∷ 354 ∷ 354 ∷ 374 ∷ 376 ∷ 376 ∷ 382 ∷ 385 ∷ 388 ∷ 390 ∷ 390 ∷ 396 ∷ 404 ∷ []
 
 abbrev pub number : Nonterminal → ℕ
 number nt.PrimaryExpression = 0
@@ -1098,14 +1108,15 @@ number nt.Designation = 58
 number nt.DesignatorList = 59
 number nt.Designator = 60
 number nt.StaticAssertDeclaration = 61
-number nt.OtherSpecifier = 62
-number nt.LaterTypeSpecifier = 63
-number nt.LaterSpecifier = 64
-number nt.LaterQualifier = 65
-number nt.ParameterDeclarator = 66
-number nt.DirectParameterDeclarator = 67
-number nt.AnyDeclarator = 68
-number nt.DirectAnyDeclarator = 69
+number nt.FunctionDefinition = 62
+number nt.OtherSpecifier = 63
+number nt.LaterTypeSpecifier = 64
+number nt.LaterSpecifier = 65
+number nt.LaterQualifier = 66
+number nt.ParameterDeclarator = 67
+number nt.DirectParameterDeclarator = 68
+number nt.AnyDeclarator = 69
+number nt.DirectAnyDeclarator = 70
 
 abbrev pub place_of : Option Place → Place
 place_of None = nowhere
@@ -1300,6 +1311,7 @@ first_spans =
     record { from = 320; to = 322 } ∷
     record { from = 320; to = 322 } ∷
     record { from = 322; to = 323 } ∷
+    record { from = 125; to = 154 } ∷
     record { from = 323; to = 336 } ∷
     record { from = 336; to = 350 } ∷
     record { from = 350; to = 377 } ∷
