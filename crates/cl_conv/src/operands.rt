@@ -99,6 +99,7 @@ pub fn is_scalar(t: &CType) -> bool
     is_arithmetic(t) || is_pointer(t)
 }
 
+/// Whether a type is a function type, as it stands.
 pub fn is_function(t: &CType) -> bool
     ensures { result ≡ is_function t.now }
 {
@@ -108,6 +109,7 @@ pub fn is_function(t: &CType) -> bool
     }
 }
 
+/// Whether a type is an array type, as it stands.
 pub fn is_array(t: &CType) -> bool
     ensures { result ≡ is_array t.now }
 {
@@ -117,6 +119,7 @@ pub fn is_array(t: &CType) -> bool
     }
 }
 
+/// Whether a type is void, its qualifiers aside.
 pub fn is_void(t: &CType) -> bool
     ensures { result ≡ is_void t.now }
 {
@@ -126,6 +129,7 @@ pub fn is_void(t: &CType) -> bool
     }
 }
 
+/// Whether a type is `_Bool`, its qualifiers and `_Atomic` aside.
 pub fn is_bool(t: &CType) -> bool
     ensures { result ≡ is_bool t.now }
 {
@@ -155,6 +159,7 @@ pub fn is_object_pointer(t: &CType) -> bool
     }
 }
 
+/// Whether an operand's value is a pointer to void.
 pub fn is_void_pointer(t: &CType) -> bool
     ensures { result ≡ is_void_pointer t.now }
 {

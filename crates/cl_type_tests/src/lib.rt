@@ -2,12 +2,4 @@
 #![tactic(auto)]
 
 #[cfg(test)]
-mod chains;
-#[cfg(test)]
-mod conversions;
-#[cfg(test)]
 mod relations;
-#[cfg(test)]
-mod specifiers;
-#[cfg(test)]
-mod texts;

@@ -3,7 +3,7 @@
 use cl_base::{List, Mem, Name};
 use cl_conv::Operand;
 use cl_specifiers::{array_of, atomic_of, function_of, pointer_to, with_qualifiers};
-use cl_types::{CType, DeclNo, Length, Params, Shared, TagWord};
+use cl_types::{CType, DeclNo, Length, Params, Shared, TagWord, print};
 use std::alloc::Global;
 
 fn tag(alloc: Global, number: u32, word: TagWord, name: &str) -> Mem<CType> {
@@ -12,7 +12,7 @@ fn tag(alloc: Global, number: u32, word: TagWord, name: &str) -> Mem<CType> {
 }
 
 /// The base of a letter: the arithmetic types in `BcaCsSiIlLqQfdD`, `v`, a structure, a union and an enumeration.
-pub fn base(alloc: Global, letter: u8) -> Mem<CType> {
+pub(crate) fn base(alloc: Global, letter: u8) -> Mem<CType> {
     match letter {
         b'B' => Ok(CType::Bool),
         b'c' => Ok(CType::Char),
@@ -82,7 +82,7 @@ fn derived(alloc: Global, t: &CType, letter: u8) -> Mem<Option<CType>> {
 }
 
 /// The type of a chain, or None where a derivation is refused.
-pub fn chain(alloc: Global, text: &str) -> Mem<Option<CType>> {
+pub(crate) fn chain(alloc: Global, text: &str) -> Mem<Option<CType>> {
     let mut t = CType::Error;
     for (i, letter) in text.as_bytes().iter().enumerate() {
         if i == 0 {
@@ -98,7 +98,7 @@ pub fn chain(alloc: Global, text: &str) -> Mem<Option<CType>> {
 }
 
 /// An lvalue of the type of a chain; `N` is the constant 0, `V` is `(void *)0`.
-pub fn operand(alloc: Global, text: &str) -> Mem<Operand> {
+pub(crate) fn operand(alloc: Global, text: &str) -> Mem<Operand> {
     match text {
         "N" => Ok(constant(CType::Int)),
         "V" => {
@@ -128,9 +128,16 @@ fn constant(ty: CType) -> Operand {
     }
 }
 
-/// The three parts of a row.
-pub fn parts(row: &str) -> (&str, &str, &str) {
-    let (first, more) = row.split_once("; ").unwrap_or((row, ""));
-    let (second, third) = more.split_once("; ").unwrap_or((more, ""));
-    (first, second, third)
+/// `yes` or `no`.
+pub(crate) fn yes_or_no(alloc: Global, holds: bool) -> Mem<String> {
+    let word = if holds { "yes" } else { "no" };
+    Ok(String::from_str(alloc, word)?)
+}
+
+/// The type that is told, or `-` for none.
+pub(crate) fn said(alloc: Global, t: Option<CType>) -> Mem<String> {
+    match t {
+        Some(t) => print(alloc, &t, ""),
+        None => Ok(String::from_str(alloc, "-")?),
+    }
 }

@@ -1,0 +1,134 @@
+//! Conversions, and the types of operations.
+
+use crate::chains::{base, operand, said, yes_or_no};
+use cl_base::Mem;
+use cl_conv::{
+    BinaryOp, Operand, UnaryOp, assignable, binary, call, cast, conditional, promote, size_of,
+    takes_count, unary, usual,
+};
+use cl_types::{CType, basic_of, print};
+use std::alloc::Global;
+
+/// The letters of the arithmetic types, in the order of their list in N1570 6.2.5.
+const LETTERS: &str = "BcaCsSiIlLqQfdD";
+
+fn binary_op(word: &str) -> BinaryOp {
+    match word {
+        "*" => BinaryOp::Multiply,
+        "/" => BinaryOp::Divide,
+        "%" => BinaryOp::Remainder,
+        "+" => BinaryOp::Add,
+        "-" => BinaryOp::Subtract,
+        "<<" => BinaryOp::ShiftLeft,
+        ">>" => BinaryOp::ShiftRight,
+        "<" => BinaryOp::Less,
+        ">=" => BinaryOp::GreaterEqual,
+        "==" => BinaryOp::Equal,
+        "!=" => BinaryOp::NotEqual,
+        "&" => BinaryOp::BitAnd,
+        "^" => BinaryOp::BitXor,
+        "&&" => BinaryOp::LogicalAnd,
+        "||" => BinaryOp::LogicalOr,
+        "*=" => BinaryOp::AssignMultiply,
+        "+=" => BinaryOp::AssignAdd,
+        "-=" => BinaryOp::AssignSubtract,
+        "%=" => BinaryOp::AssignRemainder,
+        "<<=" => BinaryOp::AssignShiftLeft,
+        "|=" => BinaryOp::AssignBitOr,
+        "[]" => BinaryOp::Index,
+        _ => BinaryOp::Comma,
+    }
+}
+
+fn unary_op(word: &str) -> UnaryOp {
+    match word {
+        "_++" => UnaryOp::PostIncrement,
+        "--" => UnaryOp::PreDecrement,
+        "&" => UnaryOp::AddressOf,
+        "*" => UnaryOp::Dereference,
+        "+" => UnaryOp::Plus,
+        "-" => UnaryOp::Minus,
+        "~" => UnaryOp::Complement,
+        _ => UnaryOp::Not,
+    }
+}
+
+fn type_of(alloc: Global, found: Option<Operand>) -> Mem<String> {
+    match found {
+        Some(operand) => said(alloc, Some(operand.ty)),
+        None => said(alloc, None),
+    }
+}
+
+/// The letter of an arithmetic type.
+fn letter_of(t: &CType) -> char {
+    let place = match basic_of(t) {
+        Some(basic) => usize::from(basic.place()),
+        None => return '?',
+    };
+    match LETTERS.as_bytes().get(place) {
+        Some(letter) => *letter as char,
+        None => '?',
+    }
+}
+
+/// The letters of the types of a type's sums with each arithmetic type.
+pub(crate) fn sums(alloc: Global, left: &str) -> Mem<String> {
+    let a = operand(alloc, left)?.ty;
+    let mut letters = String::new(alloc);
+    for right in LETTERS.as_bytes() {
+        let b = base(alloc, *right)?;
+        letters.push(letter_of(&usual(&a, &b)))?;
+    }
+    Ok(letters)
+}
+
+pub(crate) fn promoted(alloc: Global, text: &str) -> Mem<String> {
+    let a = operand(alloc, text)?.ty;
+    print(alloc, &promote(alloc, &a)?, "")
+}
+
+pub(crate) fn binary_of(alloc: Global, op: &str, operands: &str) -> Mem<String> {
+    let (left, right) = operands.split_once(" ").unwrap_or((operands, ""));
+    let a = operand(alloc, left)?;
+    let b = operand(alloc, right)?;
+    type_of(alloc, binary(alloc, binary_op(op), &a, &b)?)
+}
+
+pub(crate) fn unary_of(alloc: Global, op: &str, text: &str) -> Mem<String> {
+    let a = operand(alloc, text)?;
+    type_of(alloc, unary(alloc, unary_op(op), &a)?)
+}
+
+pub(crate) fn choice(alloc: Global, left: &str, right: &str) -> Mem<String> {
+    let c = operand(alloc, "i")?;
+    let a = operand(alloc, left)?;
+    let b = operand(alloc, right)?;
+    type_of(alloc, conditional(alloc, &c, &a, &b)?)
+}
+
+pub(crate) fn is_assigned(alloc: Global, left: &str, right: &str) -> Mem<String> {
+    let to = operand(alloc, left)?;
+    let from = operand(alloc, right)?;
+    yes_or_no(alloc, assignable(&to.ty, &from))
+}
+
+pub(crate) fn cast_of(alloc: Global, to: &str, from: &str) -> Mem<String> {
+    let t = operand(alloc, to)?;
+    let a = operand(alloc, from)?;
+    type_of(alloc, cast(alloc, &t.ty, &a)?)
+}
+
+/// The type of a call, and whether the callee is a function that takes two arguments.
+pub(crate) fn call_of(alloc: Global, text: &str) -> Mem<String> {
+    let callee = operand(alloc, text)?;
+    let result = type_of(alloc, call(alloc, &callee)?)?;
+    let takes = yes_or_no(alloc, takes_count(&callee.ty, 2))?;
+    let shown = format!(in alloc; "{result}, {takes}")?;
+    Ok(shown)
+}
+
+pub(crate) fn size(alloc: Global, text: &str) -> Mem<String> {
+    let a = operand(alloc, text)?;
+    type_of(alloc, size_of(&a))
+}
