@@ -1,20 +1,15 @@
 -- Names whose work goes on alike wherever they stand.
 use Rattle.std.proofs.Common.{◌≡◌, ℕ, Bool, true, false, not, List, [], ◌∷◌, ◌++◌, length, map, Option, Some, None, refl, sym, ap, subst, ◌∙◌}
 use Rattle.std.specs.Prelude.{if◌then◌else◌, ◌&&◌, ◌||◌, is_some, codes}
-use Rattle.std.specs.List.{position}
 use Rattle.std.specs.Cmp.Lexicographic.{same_text}
-use Rattle.cl_base.specs.declared.macros.BodyToken.{BodyToken}
 use Rattle.cl_base.specs.declared.macros.Macro.{Macro}
 use Rattle.cl_base.specs.declared.token.Kind.{Kind}
-use Rattle.cl_macro.specs.declared.part.Part.{Part}
-use Rattle.cl_macro.specs.declared.part.Part.TheVariants as part
 use Rattle.cl_macro.specs.declared.word.Word.{Word}
 use Rattle.cl_macro.specs.Words.{contains, is_ident, painted, same}
 use Rattle.cl_macro.specs.Turns.{Turn, Stays, Invokes, Misfits, Open, turn_of, turn_by}
-use Rattle.cl_macro.specs.Params.{is_paste, is_string, param_at, or_last, named}
-use Rattle.cl_macro.specs.Pasting.{body_word, joins, kept, parts_of, spaced}
+use Rattle.cl_macro.specs.Pasting.{joined_body, spaced}
 use Rattle.cl_macro.specs.Made.{is_file, is_line}
-use Rattle.cl_macro.specs.code.Flat.{is_flat, is_flat_body, is_flat_name, are_flat}
+use Rattle.cl_macro.specs.code.Flat.{is_object, is_flat, is_flat_name, is_tame, are_flat, are_tame}
 
 pub and_left : (a b : Bool) → (a && b) ≡ true → a ≡ true
 and_left true b e = refl
@@ -36,29 +31,15 @@ no_params : (o : Option (List (List ℕ))) → not (is_some o) ≡ true → o �
 no_params None e = refl
 no_params (Some ps) e = cc
 
-pub record Object (names : List (List ℕ)) (m : Macro) : Type 0 where
-  pub params : m.params ≡ None
-  pub variadic : m.variadic ≡ false
-  pub file : is_file m ≡ false
-  pub line : is_line m ≡ false
-  pub body : is_flat_body names m.body ≡ true
-
-pub object : (names : List (List ℕ)) (m : Macro) → is_flat names m ≡ true → Object names m
-object names m e =
-    let o = and_left _ (is_flat_body names m.body) e in
-    let q = and_right (not (is_some m.params)) _ o in
-    let r = and_right (not m.variadic) _ q in record {
-      params = no_params m.params (and_left (not (is_some m.params)) _ o);
-      variadic = not_true m.variadic (and_left (not m.variadic) _ q);
-      file = not_true (is_file m) (and_left (not (is_file m)) _ r);
-      line = not_true (is_line m) (and_right (not (is_file m)) _ r);
-      body = and_right _ (is_flat_body names m.body) e;
-    }
-
 -- no names but these
 abbrev pub Tame : List (List ℕ) → List Word → Type 0
 Tame names [] = Unit {0}
 Tame names (w ∷ ws) = (is_ident w.token.kind ≡ true → contains names w.token.text ≡ true) × Tame names ws
+
+tame_all : (names : List (List ℕ)) (ws : List Word) → are_tame names ws ≡ true → Tame names ws
+tame_all names [] e = tt
+tame_all names (w ∷ ws) e =
+    (or_not (is_ident w.token.kind) (contains names w.token.text) (and_left _ (are_tame names ws) e), tame_all names ws (and_right (is_tame names w) _ e))
 
 pub tame_more : (names : List (List ℕ)) (a b : List Word) → Tame names a → Tame names b → Tame names (a ++ b)
 tame_more names [] b h k = k
@@ -98,36 +79,23 @@ pub alike_spaced : (set : List (List ℕ)) (a b : Bool) (ws : List Word) → Ali
 alike_spaced set a b [] = tt
 alike_spaced set a b (w ∷ ws) = (record { kind = refl; text = refl; hide = refl }, alike_self (map (painted set) ws))
 
--- ---- the body
+-- ---- the macros
 
-by_ident : (b c : Bool) (f : List ℕ → Bool) (n : ℕ) → (if b then or_last (position f []) (if false && c then Some n else None) else None) ≡ None
-by_ident true c f n = refl
-by_ident false c f n = refl
+pub record Object (one_token : List ℕ → Option Kind) (names : List (List ℕ)) (m : Macro) : Type 0 where
+  pub params : m.params ≡ None
+  pub file : is_file m ≡ false
+  pub line : is_line m ≡ false
+  pub tame : Tame names (joined_body one_token m [] []).words
 
-abbrev param_by : Option (List (List ℕ)) → Bool → BodyToken → Option ℕ
-param_by params variadic t = if is_ident t.kind
-    then or_last (position (λ name. same name t.text) (named params)) (if variadic && same t.text (codes "__VA_ARGS__") then Some (length (named params)) else None)
-    else None
-
-no_param : (m : Macro) (t : BodyToken) → m.params ≡ None → m.variadic ≡ false → param_at m t ≡ None
-no_param m t e v = (λ i. param_by (e i) (v i) t) ∙ by_ident (is_ident t.kind) (same t.text (codes "__VA_ARGS__")) (λ name. same name t.text) 0
-
-no_string : (m : Macro) (t : BodyToken) → m.params ≡ None → is_string m t ≡ false
-no_string m t e = ap (λ (o : Option (List (List ℕ))). is_some o && (same t.text (codes "#") || same t.text (codes "%:"))) e
-
-one_part : (m : Macro) (t : BodyToken) (ts : List BodyToken) → is_paste t ≡ false → is_string m t ≡ false → param_at m t ≡ None
-    → parts_of m [] [] false None (t ∷ ts) ≡ part.Token (body_word t) ∷ parts_of m [] [] false None ts
-one_part m t ts a b c = rw (a, b, c) refl
-
-pub joins_tame : (names : List (List ℕ)) (o : List ℕ → Option Kind) (m : Macro) → m.params ≡ None → m.variadic ≡ false → (body : List BodyToken) → is_flat_body names body ≡ true
-    → (left : Part) → Tame names (kept left) → Tame names (joins o false left (parts_of m [] [] false None body)).words
-joins_tame names o m e v [] h left k = k
-joins_tame names o m e v (t ∷ ts) h left k =
-    let f = and_left _ (is_flat_body names ts) h in
-    let p = one_part m t ts (not_true (is_paste t) (and_left (not (is_paste t)) _ f)) (no_string m t e) (no_param m t e v) in
-    subst (λ (ps : List Part). Tame names (joins o false left ps).words) (sym p)
-    (tame_more names (kept left) _ k
-    (joins_tame names o m e v ts (and_right _ (is_flat_body names ts) h) (part.Token (body_word t)) (or_not (is_ident t.kind) (contains names t.text) (and_right (not (is_paste t)) _ f), tt)))
+pub object : (one_token : List ℕ → Option Kind) (names : List (List ℕ)) (m : Macro) → is_flat one_token names m ≡ true → Object one_token names m
+object one_token names m e =
+    let o = and_left _ (are_tame names (joined_body one_token m [] []).words) e in
+    let r = and_right (not (is_some m.params)) _ o in record {
+      params = no_params m.params (and_left (not (is_some m.params)) _ o);
+      file = not_true (is_file m) (and_left (not (is_file m)) _ r);
+      line = not_true (is_line m) (and_right (not (is_file m)) _ r);
+      tame = tame_all names _ (and_right (is_object m) _ e);
+    }
 
 -- ---- what is done with a token
 
@@ -135,9 +103,9 @@ abbrev pub quiet : Option Macro → Turn
 quiet None = Stays
 quiet (Some m) = Invokes m []
 
-pub turn_quiet : (names : List (List ℕ)) (o : Option Macro) (more : List Word) → is_flat_name names o ≡ true → turn_of o more ≡ quiet o
-turn_quiet names None more h = refl
-turn_quiet names (Some m) more h = ap (λ (p : Option (List (List ℕ))). turn_by m p more) (object names m h).params
+pub turn_quiet : (one_token : List ℕ → Option Kind) (names : List (List ℕ)) (o : Option Macro) (more : List Word) → is_flat_name one_token names o ≡ true → turn_of o more ≡ quiet o
+turn_quiet one_token names None more h = refl
+turn_quiet one_token names (Some m) more h = ap (λ (p : Option (List (List ℕ))). turn_by m p more) (object one_token names m h).params
 
 pub quiet_invokes : (o : Option Macro) (m : Macro) (behind : List Word) → quiet o ≡ Invokes m behind → (o ≡ Some m) × (behind ≡ [])
 quiet_invokes None m behind e = cc
@@ -151,16 +119,16 @@ pub quiet_open : (o : Option Macro) → quiet o ≡ Open → ⊥
 quiet_open None e = cc
 quiet_open (Some n) e = cc
 
-by_same : (macros : List ℕ → Option Macro) (names ns : List (List ℕ)) (x n : List ℕ) (b : Bool) → same x n ≡ b → is_flat_name names (macros x) ≡ true
-    → (contains ns n ≡ true → is_flat_name names (macros n) ≡ true) → (b || contains ns n) ≡ true → is_flat_name names (macros n) ≡ true
-by_same macros names ns x n true e h later k = subst (λ (y : List ℕ). is_flat_name names (macros y) ≡ true) (same_text x n (sym e)) h
-by_same macros names ns x n false e h later k = later k
+by_same : (one_token : List ℕ → Option Kind) (macros : List ℕ → Option Macro) (names ns : List (List ℕ)) (x n : List ℕ) (b : Bool) → same x n ≡ b → is_flat_name one_token names (macros x) ≡ true
+    → (contains ns n ≡ true → is_flat_name one_token names (macros n) ≡ true) → (b || contains ns n) ≡ true → is_flat_name one_token names (macros n) ≡ true
+by_same one_token macros names ns x n true e h later k = subst (λ (y : List ℕ). is_flat_name one_token names (macros y) ≡ true) (same_text x n (sym e)) h
+by_same one_token macros names ns x n false e h later k = later k
 
-pub name_flat : (macros : List ℕ → Option Macro) (names ns : List (List ℕ)) (n : List ℕ) → are_flat macros names ns ≡ true → contains ns n ≡ true → is_flat_name names (macros n) ≡ true
-name_flat macros names [] n h k = cc
-name_flat macros names (x ∷ ns) n h k = by_same macros names ns x n (same x n) refl (and_left _ (are_flat macros names ns) h)
-    (λ j. name_flat macros names ns n (and_right (is_flat_name names (macros x)) _ h) j) k
+pub name_flat : (one_token : List ℕ → Option Kind) (macros : List ℕ → Option Macro) (names ns : List (List ℕ)) (n : List ℕ) → are_flat one_token macros names ns ≡ true → contains ns n ≡ true → is_flat_name one_token names (macros n) ≡ true
+name_flat one_token macros names [] n h k = cc
+name_flat one_token macros names (x ∷ ns) n h k = by_same one_token macros names ns x n (same x n) refl (and_left _ (are_flat one_token macros names ns) h)
+    (λ j. name_flat one_token macros names ns n (and_right (is_flat_name one_token names (macros x)) _ h) j) k
 
-pub flat_if : (names : List (List ℕ)) (b : Bool) (o : Option Macro) → (b ≡ true → is_flat_name names o ≡ true) → is_flat_name names (if b then o else None) ≡ true
-flat_if names true o h = h refl
-flat_if names false o h = refl
+pub flat_if : (one_token : List ℕ → Option Kind) (names : List (List ℕ)) (b : Bool) (o : Option Macro) → (b ≡ true → is_flat_name one_token names o ≡ true) → is_flat_name one_token names (if b then o else None) ≡ true
+flat_if one_token names true o h = h refl
+flat_if one_token names false o h = refl

@@ -8,7 +8,6 @@ use Rattle.cl_base.specs.declared.token.PpToken.{PpToken}
 use Rattle.cl_base.specs.declared.token.Span.{Span}
 use Rattle.cl_macro.specs.Rules.{Rules}
 use Rattle.cl_macro.specs.declared.note.Note.{Note}
-use Rattle.cl_macro.specs.declared.part.Part.TheVariants as part
 use Rattle.cl_macro.specs.declared.word.Word.{Word}
 use Rattle.cl_macro.specs.Words.{contains, fresh, is_ident, looks, painted, same}
 use Rattle.cl_macro.specs.Levels.{rules_of}
@@ -22,7 +21,7 @@ use Rattle.cl_macro.proofs.Shapes.{EachShape, each_shape}
 use Rattle.cl_macro.proofs.Faultless.{made_zero}
 use Rattle.cl_macro.proofs.Standing.{looks_zero, replacements_more}
 use Rattle.cl_macro.proofs.Proceeding.{invoking_one}
-use Rattle.cl_macro.proofs.Flat.{Object, object, Tame, tame_more, tame_painted, tame_spaced, AlikeWord, Alike, alike_more, alike_spaced, joins_tame, quiet, turn_quiet, quiet_invokes, quiet_misfits, quiet_open, name_flat, flat_if, and_left}
+use Rattle.cl_macro.proofs.Flat.{Object, object, Tame, tame_more, tame_painted, tame_spaced, AlikeWord, Alike, alike_more, alike_spaced, quiet, turn_quiet, quiet_invokes, quiet_misfits, quiet_open, name_flat, flat_if, and_left}
 
 -- the macro of a word, by the parts that it goes by
 abbrev means : (List ℕ → Option Macro) → Bool → List ℕ → List (List ℕ) → Option Macro
@@ -42,12 +41,12 @@ no_asked : (m : Macro) → asked m [] ≡ []
 unfolding asked
 no_asked m = refl
 
-made_flat : (rules : Rules) (names : List (List ℕ)) (m : Macro) (space : Bool) (set : List (List ℕ)) → Object names m
+made_flat : (rules : Rules) (names : List (List ℕ)) (m : Macro) (space : Bool) (set : List (List ℕ)) (one_token : List ℕ → Option Kind) → Object one_token names m
     → made rules m [] [] space set ≡ map (painted set) (spaced space (joined_body rules.one_token m [] []).words)
 unfolding made
-made_flat rules names m space set o = ap (λ ws. map (painted set) (spaced space ws)) (rw (o.file, o.line) refl)
+made_flat rules names m space set one_token o = ap (λ ws. map (painted set) (spaced space ws)) (rw (o.file, o.line) refl)
 
-module _ (rules other : Rules) (names : List (List ℕ)) (em : other.macros ≡ rules.macros) (eo : other.one_token ≡ rules.one_token) (flat : are_flat rules.macros names names ≡ true) where
+module _ (rules other : Rules) (names : List (List ℕ)) (em : other.macros ≡ rules.macros) (eo : other.one_token ≡ rules.one_token) (flat : are_flat rules.one_token rules.macros names names ≡ true) where
   -- the same comes of other tokens
   pub record Repeats (work rest : List Word) (ns : List Note) : Type 0 where
     pub out : List Word
@@ -55,19 +54,19 @@ module _ (rules other : Rules) (names : List (List ℕ)) (em : other.macros ≡ 
     pub works : Works other work rest out rest notes
     pub counts : replacements notes ≡ replacements ns
 
-  flat_meaning : (w : Word) → (is_ident w.token.kind ≡ true → contains names w.token.text ≡ true) → is_flat_name names (meaning rules.macros w) ≡ true
-  flat_meaning w h = flat_if names (is_ident w.token.kind && not (contains w.hide w.token.text)) (rules.macros w.token.text)
-      (λ e. name_flat rules.macros names names w.token.text flat (h (and_left (is_ident w.token.kind) _ e)))
+  flat_meaning : (w : Word) → (is_ident w.token.kind ≡ true → contains names w.token.text ≡ true) → is_flat_name rules.one_token names (meaning rules.macros w) ≡ true
+  flat_meaning w h = flat_if rules.one_token names (is_ident w.token.kind && not (contains w.hide w.token.text)) (rules.macros w.token.text)
+      (λ e. name_flat rules.one_token rules.macros names names w.token.text flat (h (and_left (is_ident w.token.kind) _ e)))
 
   -- what is done with a token doesn't hang on those behind it
   turned : (w : Word) (more : List Word) (t : Turn) → (is_ident w.token.kind ≡ true → contains names w.token.text ≡ true) → turn rules.macros w more ≡ t → quiet (meaning rules.macros w) ≡ t
-  turned w more t h e = sym (turn_quiet names (meaning rules.macros w) more (flat_meaning w h)) ∙ e
+  turned w more t h e = sym (turn_quiet rules.one_token names (meaning rules.macros w) more (flat_meaning w h)) ∙ e
 
   turns : (w v : Word) (more : List Word) (t : Turn) → (is_ident w.token.kind ≡ true → contains names w.token.text ≡ true) → AlikeWord w v → quiet (meaning rules.macros w) ≡ t
       → turn other.macros v more ≡ t
   turns w v more t h a e =
       let s : meaning other.macros v ≡ meaning rules.macros w = ap (λ (ms : List ℕ → Option Macro). meaning ms v) em ∙ sym (same_meaning rules.macros w v a) in
-      ap (λ o. turn_of o more) s ∙ turn_quiet names (meaning rules.macros w) more (flat_meaning w h) ∙ e
+      ap (λ o. turn_of o more) s ∙ turn_quiet rules.one_token names (meaning rules.macros w) more (flat_meaning w h) ∙ e
 
   more_zero : (a b ns ms : List Note) → replacements a ≡ 0 → replacements b ≡ 0 → replacements ns ≡ replacements ms → replacements (a ++ ns) ≡ replacements (b ++ ms)
   more_zero a b ns ms e f g = let h = replacements_more a ns in let k = replacements_more b ms in omega arith
@@ -87,12 +86,12 @@ module _ (rules other : Rules) (names : List (List ℕ)) (em : other.macros ≡ 
   made_at r m w behind work full = made r m (raws m (args_of m behind)) full w.token.space (set_of w behind) ++ drop (length behind) work
 
   -- what an object-like macro makes
-  made_at_flat : (r : Rules) (m : Macro) (w : Word) (behind work : List Word) (full : List (List Word)) → Object names m → behind ≡ [] → full ≡ []
+  made_at_flat : (r : Rules) (m : Macro) (w : Word) (behind work : List Word) (full : List (List Word)) → Object rules.one_token names m → behind ≡ [] → full ≡ []
       → made_at r m w behind work full ≡ map (painted (set_of w [])) (spaced w.token.space (joined_body r.one_token m [] []).words) ++ work
   made_at_flat r m w behind work full o e f = (λ i. made_at r m w (e i) work (f i))
       ∙ ap (λ (args : List (List Word)). made r m (raws m args) [] w.token.space (set_of w []) ++ work) (no_args m o.params)
       ∙ ap (λ (args : List (List Word)). made r m args [] w.token.space (set_of w []) ++ work) (no_raws m)
-      ∙ ap (λ ws. ws ++ work) (made_flat r names m w.token.space (set_of w []) o)
+      ∙ ap (λ ws. ws ++ work) (made_flat r names m w.token.space (set_of w []) rules.one_token o)
 
   no_drop : (work rest : List Word) → rest ≡ drop (0 - length work) rest
   no_drop work rest = ap (λ n. drop n rest) (let z : 0 ≡ 0 - length work = omega arith in z)
@@ -111,13 +110,13 @@ module _ (rules other : Rules) (names : List (List ℕ)) (em : other.macros ≡ 
   repeats (invokes w work rest m behind full inner out left ns t each d) (v ∷ work2) rest2 h a =
       let u = turned w (work ++ rest) (Invokes m behind) h.0 t in
       let i = quiet_invokes (meaning rules.macros w) m behind u in
-      let o : Object names m = object names m (subst (λ (x : Option Macro). is_flat_name names x ≡ true) i.0 (flat_meaning w h.0)) in
+      let o : Object rules.one_token names m = object rules.one_token names m (subst (λ (x : Option Macro). is_flat_name rules.one_token names x ≡ true) i.0 (flat_meaning w h.0)) in
       let e : asked m (args_of m behind) ≡ [] = ap (λ (b : List Word). asked m (args_of m b)) i.1 ∙ ap (asked m) (no_args m o.params) ∙ no_asked m in
       let s : EachShape rules [] full inner = each_shape rules (subst (λ (args : List (List Word)). Each rules args full inner) e each) in
       let j = (joined_body rules.one_token m [] []).words in
       let x : List Word = map (painted (set_of v [])) (spaced v.token.space j) ++ work2 in
       let tame : Tame names (map (painted (set_of w [])) (spaced w.token.space j) ++ work) =
-      tame_more names _ work (tame_painted names (set_of w []) _ (tame_spaced names w.token.space j (joins_tame names rules.one_token m o.params o.variadic m.body o.body (part.Marker false) tt))) h.1 in
+      tame_more names _ work (tame_painted names (set_of w []) _ (tame_spaced names w.token.space j o.tame)) h.1 in
       let alike : Alike (map (painted (set_of w [])) (spaced w.token.space j) ++ work) x =
       alike_more _ (map (painted (set_of v [])) (spaced v.token.space j)) work work2
       (subst (λ (set : List (List ℕ)). Alike (map (painted (set_of w [])) (spaced w.token.space j)) (map (painted set) (spaced v.token.space j))) (λ i. a.0.text i ∷ a.0.hide i)
@@ -142,7 +141,7 @@ module _ (rules other : Rules) (names : List (List ℕ)) (em : other.macros ≡ 
 
 -- what is too large in one place is so in another
 pub large_elsewhere : (rules other : Rules) (names : List (List ℕ)) (t u : PpToken) (behind : List Word) → other.macros ≡ rules.macros → other.one_token ≡ rules.one_token
-    → are_flat rules.macros names names ≡ true → contains names t.text ≡ true → is_ident t.kind ≡ is_ident u.kind → t.text ≡ u.text
+    → are_flat rules.one_token rules.macros names names ≡ true → contains names t.text ≡ true → is_ident t.kind ≡ is_ident u.kind → t.text ≡ u.text
     → ((out left : List Word) (ns : List Note) → Works other (fresh u ∷ []) behind out left ns → 65535 < replacements ns)
     → (rest out left : List Word) (ns : List Note) → Works rules (fresh t ∷ []) rest out left ns → 65535 < replacements ns
 large_elsewhere rules other names t u behind em eo flat k ei et large rest out left ns d =
@@ -166,7 +165,7 @@ contains_last (y ∷ xs) x n k = either_of (x ≡ n) (same y n) (contains (xs ++
 
 -- one more name is known to come to too much
 pub large_more : (macros : List ℕ → Option Macro) (one_token : List ℕ → Option Kind) (file text : List ℕ) (large large2 : List (List ℕ)) (u : PpToken) (behind : List Word)
-    → AreLarge (rules_of macros one_token file text) large → large2 ≡ large ++ u.text ∷ [] → is_ident u.kind ≡ true → IsAlone macros u.text
+    → AreLarge (rules_of macros one_token file text) large → large2 ≡ large ++ u.text ∷ [] → is_ident u.kind ≡ true → IsAlone one_token macros u.text
     → ((out left : List Word) (ns : List Note) → Works (rules_of macros one_token file text u.at) (fresh u ∷ []) behind out left ns → 65535 < replacements ns)
     → AreLarge (rules_of macros one_token file text) large2
 large_more macros one_token file text large large2 u behind old e i a big = subst (λ (ns : List (List ℕ)). AreLarge (rules_of macros one_token file text) ns) (sym e)

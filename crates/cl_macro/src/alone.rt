@@ -1,17 +1,20 @@
 //! Names whose work goes on alike wherever they stand.
 
-ghost use Rattle.std.specs.Prelude.{◌≡◌, ◌&&◌, true, IfOk, OnOk};
+ghost use Rattle.std.specs.Prelude.{◌≡◌, ◌&&◌, [], true, ℕ, List, Option, IfOk, OnOk};
+ghost use Rattle.cl_base.specs.declared.token.Kind.{Kind as TheKind};
+ghost use Rattle.cl_macro.specs.Pasting.{joined_body};
+ghost use Rattle.cl_macro.specs.Rules.{TellsTokens};
 ghost use Rattle.cl_macro.specs.Table.{macro_of};
 ghost use Rattle.cl_macro.specs.Words.{contains, is_ident};
-ghost use Rattle.cl_macro.specs.code.Flat.{IsAlone, Remembers, are_flat, is_flat, is_flat_body, is_flat_token, is_object};
+ghost use Rattle.cl_macro.specs.code.Flat.{IsAlone, Remembers, are_flat, are_tame, is_flat, is_object, is_tame};
 
 use crate::base::MacroBase;
+use crate::body::{Args, joined_body};
 use crate::hide::has;
 use crate::made::{is_file, is_line};
-use crate::params::is_paste;
 use crate::table::MacroTable;
-use crate::word::is_ident;
-use cl_base::{BodyToken, Duplicate, List, Macro, Mem, Name, PpToken};
+use crate::word::{Word, is_ident};
+use cl_base::{Duplicate, List, Macro, Mem, Name, PpToken};
 use std::alloc::Global;
 
 /// The most names that are looked at.
@@ -24,19 +27,34 @@ pub(crate) fn is_one_of(names: &[Name], token: &PpToken) -> bool
     is_ident(token.kind) && has(names, &token.text)
 }
 
-fn is_flat_token(names: &[Name], token: &BodyToken) -> bool
-    ensures { result ≡ is_flat_token names.now token.now }
+/// What an object-like macro is replaced by, wherever it stands.
+fn body_of(alloc: Global, mac: &Macro) -> Mem<List<Word>>
+    ensures { (one_token : List ℕ → Option TheKind) → TellsTokens one_token → IfOk result (λ words. words ≡ (joined_body one_token mac.now [] []).words) }
 {
-    !is_paste(token) && (!is_ident(token.kind) || has(names, &token.text))
+    let none = List::new(alloc);
+    let args = Args {
+        mac,
+        raw: &none,
+        full: &none,
+    };
+    let mut notes = List::new(alloc);
+    let words = joined_body(alloc, &args, &mut notes)?;
+    Ok(words)
 }
 
-fn is_flat_body(names: &[Name], body: &[BodyToken]) -> bool
-    ensures { result ≡ is_flat_body names.now body.now }
+fn is_tame(names: &[Name], word: &Word) -> bool
+    ensures { result ≡ is_tame names.now word.now }
 {
-    let mut rest = body;
-    while let Some((token, behind)) = rest.split_first() {
+    !is_ident(word.token.kind) || has(names, &word.token.text)
+}
+
+fn are_tame(names: &[Name], words: &[Word]) -> bool
+    ensures { result ≡ are_tame names.now words.now }
+{
+    let mut rest = words;
+    while let Some((word, behind)) = rest.split_first() {
         rest = behind;
-        if !is_flat_token(names, token) {
+        if !is_tame(names, word) {
             return false;
         }
     }
@@ -46,24 +64,30 @@ fn is_flat_body(names: &[Name], body: &[BodyToken]) -> bool
 fn is_object(mac: &Macro) -> bool
     ensures { result ≡ is_object mac.now }
 {
-    !mac.params.is_some() && !mac.variadic && !is_file(mac) && !is_line(mac)
+    !mac.params.is_some() && !is_file(mac) && !is_line(mac)
 }
 
-fn is_flat(names: &[Name], mac: &Macro) -> bool
-    ensures { result ≡ is_flat names.now mac.now }
+/// Whether a macro is object-like and makes no names but these.
+fn is_flat(alloc: Global, names: &[Name], mac: &Macro) -> Mem<bool>
+    ensures { (one_token : List ℕ → Option TheKind) → TellsTokens one_token → IfOk result (λ flat. flat ≡ is_flat one_token names.now mac.now) }
 {
-    is_object(mac) && is_flat_body(names, mac.body.as_slice())
+    if !is_object(mac) {
+        return Ok(false);
+    }
+    let words = body_of(alloc, mac)?;
+    Ok(are_tame(names, words.as_slice()))
 }
 
-/// Whether the macros of all these names are object-like, make no names but these, and join none.
+/// Whether the macros of all these names are object-like and make no names but these.
 fn are_flat<B: MacroBase>(alloc: Global, table: &MacroTable, base: &B, names: &[Name]) -> Mem<bool>
-    ensures { IfOk result (λ flat. flat ≡ are_flat (macro_of table.now (B.macros base.now)) names.now names.now) }
+    ensures { (one_token : List ℕ → Option TheKind) → TellsTokens one_token → IfOk result (λ flat. flat ≡ are_flat one_token (macro_of table.now (B.macros base.now)) names.now names.now) }
 {
     let mut rest = names;
     while let Some((name, behind)) = rest.split_first() {
         rest = behind;
         if let Some(mac) = table.find(alloc, base, name)? {
-            if !is_flat(names, mac.get()) {
+            let flat = is_flat(alloc, names, mac.get())?;
+            if !flat {
                 return Ok(false);
             }
         }
@@ -71,14 +95,15 @@ fn are_flat<B: MacroBase>(alloc: Global, table: &MacroTable, base: &B, names: &[
     Ok(true)
 }
 
-/// Adds the names in a macro's body, up to the most.
+/// Adds the names in what a macro is replaced by, up to the most.
 fn add_names(alloc: Global, names: &mut List<Name>, mac: &Macro) -> Mem<()> {
-    for token in mac.body.as_slice() {
+    let words = body_of(alloc, mac)?;
+    for word in words.as_slice() {
         if names.len() >= MOST_NAMES {
             return Ok(());
         }
-        if is_ident(token.kind) && !has(names.as_slice(), &token.text) {
-            names.push(token.text.duplicate(alloc)?)?;
+        if !is_tame(names.as_slice(), word) {
+            names.push(word.token.text.duplicate(alloc)?)?;
         }
     }
     Ok(())
@@ -107,7 +132,7 @@ fn reached<B: MacroBase>(
 
 /// Whether what comes of the name is known to hang neither on its place nor on what follows it.
 fn is_alone<B: MacroBase>(alloc: Global, table: &MacroTable, base: &B, name: &Name) -> Mem<bool>
-    ensures { IfOk result (λ alone. alone ≡ true → IsAlone (macro_of table.now (B.macros base.now)) name.now) }
+    ensures { (one_token : List ℕ → Option TheKind) → TellsTokens one_token → IfOk result (λ alone. alone ≡ true → IsAlone one_token (macro_of table.now (B.macros base.now)) name.now) }
 {
     let names = reached(alloc, table, base, name)?;
     let one = has(names.as_slice(), name);
@@ -126,7 +151,7 @@ pub(crate) fn remember<B: MacroBase>(
     large: &mut List<Name>,
     token: &PpToken,
 ) -> Mem<()>
-    ensures { OnOk result (Remembers (macro_of table.now (B.macros base.now)) token.now large.old large.new) }
+    ensures { (one_token : List ℕ → Option TheKind) → TellsTokens one_token → OnOk result (Remembers one_token (macro_of table.now (B.macros base.now)) token.now large.old large.new) }
 {
     let ident = is_ident(token.kind);
     if !ident {

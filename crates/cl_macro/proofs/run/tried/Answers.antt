@@ -35,7 +35,7 @@ returns-clause-value g c = λ o file text suits large.
 pub returns-clause-large : goal.returns-clause-large
 returns-clause-large g c = λ o file text suits large.
     let macros = macro_of c.args.table.now (g.B.MacroBase.macros c.args.base.now) in
-    elim c.in_ok-remember.ensures [
+    elim (c.in_ok-remember.ensures o suits.tells) [
       | inl e ↦ subst (λ (names : List (List ℕ)). AreLarge (rules_of macros o file text) names) (sym e) large
       | inr r ↦
           large_more macros o file text c.args.large.now c.remember.new.large c.args.first.now (map fresh c.args.behind.now) large r.0 r.1 r.2 (returns-clause-value g c o file text suits large)
