@@ -494,8 +494,8 @@ goal_rows = goal_rows_from 0 0 0 first_spans goals
 A = A.replace('slice_get, slice_range}', 'slice_get, length, ◌+◌}')
 w('specs/code/Table.antt', A)
 L = '''-- Every class, and numbers that tell apart.
-use Rattle.std.proofs.Common.{◌≡◌, ℕ, ◌+◌, List, [], ◌∷◌, refl, ap, sym, ◌∙◌, arith}
-use Rattle.std.specs.Prelude.{Option, Some, None, slice_get}
+use Rattle.std.proofs.Common.{◌≡◌, ℕ, List, [], ◌∷◌, refl, ap, sym, ◌∙◌}
+use Rattle.std.specs.Prelude.{Some, slice_get}
 use Rattle.cl_tree.specs.declared.class.Class.{Class}
 use Rattle.cl_tree.specs.declared.class.Class.TheVariants as cl
 use Rattle.cl_tree.specs.declared.nonterminal.Nonterminal.{Nonterminal}

@@ -22,7 +22,7 @@ use Rattle.cl_expr.specs.declared.table.Label.{Label}
 use Rattle.cl_expr.specs.declared.table.Ways.{Ways}
 use Rattle.cl_expr.specs.code.Table.{Item, Place, places, place, nowhere, goal, goals, number, starts, edges, name_of, bars, bar_of, turn, turned, turning, is_named, home, items, kinds}
 use Rattle.cl_expr.specs.code.Paths as p
-use Rattle.cl_expr.specs.code.Paths.{name, Ended, Path, Kind, At, Whole}
+use Rattle.cl_expr.specs.code.Paths.{name, Path, At, Whole}
 use Rattle.cl_expr.proofs.All.{all_goals, numbered_goal, class_number, same_class_is, act_number, same_act_is, same_goal_is, rule_number, same_rule_is}
 use Rattle.cl_expr.proofs.Checks.{every, some, when, when_use, none_not, some_is, every_has, member_has}
 use Rattle.cl_expr.proofs.Conditions.{Way, numbers, every_place, either, home_next, kind_in, place_number}

@@ -1,5 +1,5 @@
 -- The last token of a declaration, and of a function definition.
-use Rattle.std.proofs.Common.{◌≡◌, ℕ, zero, suc, ◌+◌, ◌-◌, List, [], ◌∷◌, ◌⊎◌, inl, inr, arith, refl, sym, ◌∙◌, ap, subst, length, Bool, true, false, not, ◌&&◌, ◌||◌}
+use Rattle.std.proofs.Common.{◌≡◌, ℕ, zero, suc, ◌+◌, ◌-◌, List, [], ◌∷◌, inl, inr, arith, refl, sym, ◌∙◌, ap, subst, length, Bool, true, false, not, ◌&&◌, ◌||◌}
 use Rattle.std.specs.Prelude.{Option, Some, None, slice_get, Result, Ok, Err, IfOk, IfSome}
 use Rattle.cl_base.specs.declared.memory.Memory.{Memory}
 use Rattle.cl_expr.specs.declared.expression.Parsed.{Parsed}
@@ -13,27 +13,23 @@ use Rattle.cl_tree.specs.declared.shape.Shape.TheVariants.{Fixed, Word, Paren}
 use Rattle.cl_tree.specs.declared.nonterminal.Nonterminal.{Nonterminal}
 use Rattle.cl_tree.specs.declared.nonterminal.Nonterminal.TheVariants as nt
 use Rattle.cl_tree.specs.declared.grammar.Terminal.{Terminal}
-use Rattle.cl_tree.specs.declared.grammar.Act.{Act}
 use Rattle.cl_tree.specs.declared.grammar.Symbol.{Symbol}
 use Rattle.cl_tree.specs.declared.grammar.Symbol.TheVariants.{Token, Node}
 use Rattle.cl_tree.specs.declared.grammar.Separator.{Separator}
 use Rattle.cl_tree.specs.declared.tree.Tree.{Tree}
 use Rattle.cl_tree.specs.declared.lexeme.Lexeme.{Lexeme}
-use Rattle.cl_tree.specs.declared.scope.Change.{Change}
 use Rattle.cl_tree.specs.declared.scope.Scope.{Scope}
 use Rattle.cl_tree.specs.Scopes.{class_at, class_of, class_by, word_class, paren_class, known, typed_at, pass}
 use Rattle.cl_tree.specs.Grammar.{takes}
-use Rattle.cl_tree.specs.Derives.{Has, start, end, parts, piece, last_token, is_body, Closed, SpansFrom, External}
+use Rattle.cl_tree.specs.Derives.{Has, start, end, parts, piece, last_token, is_body, SpansFrom, External}
 use Rattle.cl_expr.specs.declared.table.Edge.{Edge}
-use Rattle.cl_expr.specs.declared.table.Label.{Label}
 use Rattle.cl_expr.specs.code.Table.{places, place, edges, turning, turn, home, kinds, goal, goals, name_of}
-use Rattle.cl_expr.specs.code.Paths.{name, Ended, Reads, ReadsAfter, Path, Kind, At, Whole}
+use Rattle.cl_expr.specs.code.Paths.{name, Ended, Reads, ReadsAfter, Path, Kind, At}
 use Rattle.cl_expr.proofs.All.{class_number, same_class_is}
 use Rattle.cl_expr.proofs.Checks.{every, when, when_use, none_not, some_is, every_has, has_member}
-use Rattle.cl_expr.proofs.Conditions.{every_place, numbers, either, steps, steps_use, kind_in, place_number, no_name}
+use Rattle.cl_expr.proofs.Conditions.{every_place, steps, steps_use, kind_in, place_number, no_name}
 use Rattle.cl_expr.proofs.Heights.{kind_of, kind_flat, end_piece}
 use Rattle.cl_expr.proofs.Bridge.{of_derives, in_edges}
-use Rattle.cl_expr.proofs.Within.{class_within}
 
 -- whether a class may depend on the names that are declared
 abbrev depends : Class → Bool

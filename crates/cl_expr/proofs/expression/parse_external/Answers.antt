@@ -1,11 +1,5 @@
-use Rattle.std.proofs.Common.{◌≡◌, inl, inr}
-use Rattle.std.specs.Prelude.{Option, Some, None, IfSome}
+use Rattle.std.proofs.Common.{inl, inr}
 use Rattle.cl_tree.specs.declared.nonterminal.Nonterminal.TheVariants as nt
-use Rattle.cl_tree.specs.declared.tree.Tree.{Tree}
-use Rattle.cl_tree.specs.declared.scope.Scope.{Scope}
-use Rattle.cl_tree.specs.Derives.{SpansFrom, External}
-use Rattle.cl_expr.specs.declared.expression.Parsed.{Parsed}
-use Rattle.cl_expr.proofs.Climb.{ok_map}
 use Rattle.cl_expr.proofs.External.{braced, unbraced, found_as, only_as}
 use Rattle.cl_expr.proofs.expression.parse_external.Goals as goal
 

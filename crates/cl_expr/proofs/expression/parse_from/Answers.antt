@@ -1,6 +1,5 @@
 use Rattle.std.proofs.Common.{◌≡◌, ◌∙◌, ap}
 use Rattle.std.specs.Prelude.{Some}
-use Rattle.cl_tree.specs.declared.tree.Tree.{Tree}
 use Rattle.cl_tree.specs.Derives.{end}
 use Rattle.cl_expr.proofs.Bridge.{to_derives, of_derives}
 use Rattle.cl_expr.proofs.Climb.{whole_found, whole_only}
