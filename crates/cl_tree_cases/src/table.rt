@@ -16,6 +16,8 @@ enum Section {
     Declaration,
     /// Type names (6.7.7).
     TypeName,
+    /// Files, with whether they end whole.
+    EndsWhole,
 }
 
 /// What stands between the lines of a table.
@@ -55,6 +57,7 @@ impl Table {
             Section::Expression => trees::expression(alloc, text.as_bytes(), &self.typedefs)?,
             Section::Declaration => trees::declaration(alloc, text.as_bytes(), &self.typedefs)?,
             Section::TypeName => trees::type_name(alloc, text.as_bytes(), &self.typedefs)?,
+            Section::EndsWhole => trees::whole(alloc, text.as_bytes())?,
         };
         let shown = format!(in alloc; "{text} => {found}\n")?;
         Ok(shown)
@@ -74,6 +77,7 @@ fn section_of(name: &str) -> Section {
     match name {
         "[declaration]" => Section::Declaration,
         "[type name]" => Section::TypeName,
+        "[ends whole]" => Section::EndsWhole,
         _ => Section::Expression,
     }
 }
