@@ -1,5 +1,5 @@
 -- The members of a structure, one after the other.
-use Rattle.std.proofs.Common.{◌≡◌, ◌≤◌, ◌<◌, ◌+◌, ◌-◌, ◌*◌, ℕ, Bool, true, false, List, [], ◌∷◌, Option, Some, None, refl, sym, ap, subst, ◌∙◌, arith}
+use Rattle.std.proofs.Common.{◌≡◌, ◌≤◌, ◌<◌, ◌+◌, ◌-◌, ◌*◌, ℕ, Bool, true, false, List, [], ◌∷◌, Option, Some, None, refl, sym, ap, subst, arith}
 use Rattle.std.specs.Prelude.{◌/◌, max, if◌then◌else◌, nat_le}
 use Rattle.cl_types.specs.declared.unit.Member.{Member}
 use Rattle.cl_layout.specs.declared.layout.Layout.{Layout}

@@ -1,5 +1,5 @@
 -- Sizes and alignments (N1570 6.2.5, 6.2.8, 6.5.3.4, 6.7.2.1): in bytes, on a machine of 64 bits whose `long` and pointers have 8.
-use Rattle.std.specs.Prelude.{◌≡◌, ℕ, ◌+◌, ◌-◌, ◌*◌, ◌/◌, ◌%◌, ◌^◌, ◌==◌, ◌||◌, ◌&&◌, Bool, true, false, if◌then◌else◌, nat_le, nat_lt, max, List, [], ◌∷◌, Option, Some, None}
+use Rattle.std.specs.Prelude.{◌≡◌, ℕ, ◌+◌, ◌-◌, ◌*◌, ◌/◌, ◌%◌, ◌^◌, ◌==◌, ◌&&◌, Bool, true, false, if◌then◌else◌, nat_le, nat_lt, max, List, [], ◌∷◌, Option, Some, None}
 use Rattle.cl_types.specs.declared.types.Basic.{Basic}
 use Rattle.cl_types.specs.declared.types.Basic.TheVariants as basic
 use Rattle.cl_types.specs.declared.types.CType.{CType}
@@ -11,7 +11,6 @@ use Rattle.cl_types.specs.declared.types.Params.{Params}
 use Rattle.cl_types.specs.declared.types.TagWord.{TagWord}
 use Rattle.cl_types.specs.declared.types.TagWord.TheVariants as word
 use Rattle.cl_types.specs.declared.unit.Member.{Member}
-use Rattle.cl_types.specs.Compatible.{is_enum}
 use Rattle.cl_types.specs.Form.{Form, Form as f, form}
 use Rattle.cl_layout.specs.declared.layout.Layout.{Layout}
 use Rattle.cl_layout.specs.declared.layout.Layout.TheVariants.{Known, Unknown, Incomplete}

@@ -1,6 +1,6 @@
 -- Faults of constants and string literals: a stray token (24), an integer constant too large (25), an invalid escape sequence (26),
 -- and adjacent string literals of two prefixes (27).
-use Rattle.std.specs.Prelude.{ℕ, zero, suc, ◌+◌, ◌-◌, ◌==◌, ◌++◌, Bool, true, false, not, ◌&&◌, ◌||◌, if◌then◌else◌, List, [], ◌∷◌, length, map, take, slice_index, Option, Some, None, sum}
+use Rattle.std.specs.Prelude.{ℕ, zero, suc, ◌==◌, ◌++◌, Bool, true, false, not, ◌&&◌, ◌||◌, if◌then◌else◌, List, [], ◌∷◌, map, take, None, sum}
 use Rattle.std.specs.List.{prefix_len}
 use Rattle.cl_base.specs.declared.token.Diag.{Diag}
 use Rattle.cl_base.specs.declared.token.Kind.{Kind}

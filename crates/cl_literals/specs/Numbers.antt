@@ -1,8 +1,8 @@
 -- Numbers as constants: integer constants (N1570 6.4.4.1) and floating constants (6.4.4.2), each with its type.
-use Rattle.std.specs.Prelude.{ℕ, ◌+◌, ◌-◌, ◌^◌, ◌==◌, Bool, true, false, not, ◌&&◌, ◌||◌, if◌then◌else◌, nat_lt, nat_le, List, [], ◌∷◌, take, drop, Option, Some, None}
+use Rattle.std.specs.Prelude.{ℕ, ◌+◌, ◌^◌, ◌==◌, Bool, true, false, not, ◌&&◌, ◌||◌, if◌then◌else◌, nat_lt, nat_le, List, [], ◌∷◌, take, drop, Option, Some, None}
 use Rattle.std.specs.List.{prefix_len}
 use Rattle.cl_const.specs.declared.integers.Base.{Base}
-use Rattle.cl_const.specs.declared.integers.Base.TheVariants.{Octal, Decimal, Hexadecimal}
+use Rattle.cl_const.specs.declared.integers.Base.TheVariants.{Decimal, Hexadecimal}
 use Rattle.cl_const.specs.Integers.{base_of, digits_value, front_len, is_decimal, is_digit}
 use Rattle.cl_types.specs.declared.types.Basic.{Basic}
 use Rattle.cl_types.specs.declared.types.Basic.TheVariants.{Int, UInt, Long, ULong, LLong, ULLong, Float, Double, LDouble}

@@ -1,13 +1,12 @@
 -- Character constants and string literals (N1570 6.4.4.4, 6.4.5): their prefixes, types, escapes and elements.
-use Rattle.std.specs.Prelude.{ℕ, zero, suc, ◌+◌, ◌-◌, ◌==◌, Bool, true, false, not, ◌&&◌, ◌||◌, if◌then◌else◌, nat_lt, nat_le, List, [], ◌∷◌, length, map, take, slice_range, Option, Some, None, ℤ, pos, sum}
+use Rattle.std.specs.Prelude.{ℕ, zero, suc, ◌+◌, ◌-◌, ◌==◌, Bool, false, not, ◌&&◌, if◌then◌else◌, nat_lt, nat_le, List, [], ◌∷◌, length, map, take, slice_range, Option, Some, None, ℤ, pos, sum}
 use Rattle.std.specs.List.{list_any}
 use Rattle.cl_const.specs.declared.char_type.CharType.{CharType}
 use Rattle.cl_const.specs.declared.char_type.CharType.TheVariants as chars
 use Rattle.cl_const.specs.declared.escape.Code.{Code}
-use Rattle.cl_const.specs.declared.escape.Code.TheVariants.{Element, Character}
+use Rattle.cl_const.specs.declared.escape.Code.TheVariants.{Character}
 use Rattle.cl_const.specs.declared.characters.Constant.{Constant}
-use Rattle.cl_const.specs.declared.characters.Constant.TheVariants.{Known, Unknown}
-use Rattle.cl_const.specs.declared.number.Number.{Number}
+use Rattle.cl_const.specs.declared.characters.Constant.TheVariants.{Known}
 use Rattle.cl_const.specs.declared.number.Number.TheVariants.{Signed, Unsigned}
 use Rattle.cl_const.specs.Characters.{c_char_len, character, code_of, stands}
 use Rattle.cl_types.specs.declared.types.Basic.{Basic}

@@ -75,7 +75,7 @@ fn tags_of(alloc: Global, line: &str) -> Mem<Tags> {
 /// Where the members of the last one begin, in bits, its size and its alignment in bytes.
 pub(crate) fn layout_of(alloc: Global, line: &str) -> Mem<String> {
     let tags = tags_of(alloc, line)?;
-    let last = tags.members.len().saturating_sub(1) as u32;
+    let last = u32::try_from(tags.members.len().saturating_sub(1)).unwrap_or(0);
     let text = match line.rsplit_once("; ") {
         Some((_, text)) => text,
         None => line,

@@ -1,4 +1,4 @@
-use Rattle.std.proofs.Common.{◌≡◌, ◌∷◌, sym, ap, ◌∙◌, rules}
+use Rattle.std.proofs.Common.{◌≡◌, ◌∷◌, ap, ◌∙◌, rules}
 use Rattle.cl_layout.specs.Layouts.{layout_at, member_over}
 use Rattle.cl_layout.proofs.Steps.{offsets_more}
 use Rattle.cl_layout.proofs.work.offsets_in.Goals as goal

@@ -1,4 +1,4 @@
-use Rattle.std.proofs.Common.{◌≡◌, ◌++◌, ◌+◌, length}
+use Rattle.std.proofs.Common.{◌≡◌, ◌++◌, length}
 use Rattle.cl_literals.specs.Faults.{mixed_faults}
 use Rattle.cl_literals.proofs.finding.add_mixed_faults.Given as goal
 

@@ -1,4 +1,4 @@
-use Rattle.std.proofs.Common.{◌≡◌, ◌++◌, ◌+◌, length}
+use Rattle.std.proofs.Common.{◌≡◌, ◌++◌, length}
 use Rattle.cl_literals.specs.Faults.{faults_from}
 use Rattle.cl_literals.proofs.finding.faults.Given as goal
 

@@ -1,4 +1,4 @@
-use Rattle.std.proofs.Common.{◌≡◌, ◌++◌, ◌+◌, length}
+use Rattle.std.proofs.Common.{◌≡◌, length}
 use Rattle.cl_literals.specs.Faults.{literal_prefix}
 use Rattle.cl_literals.proofs.finding.literal_prefix.Given as goal
 

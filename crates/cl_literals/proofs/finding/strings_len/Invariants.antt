@@ -1,6 +1,5 @@
 use Rattle.std.proofs.Common.{◌≡◌, ◌≤◌, ◌-◌, ◌+◌, drop, length}
-use Rattle.std.specs.List.{prefix_len}
-use Rattle.cl_literals.specs.Faults.{is_string, strings_len}
+use Rattle.cl_literals.specs.Faults.{strings_len}
 use Rattle.cl_literals.proofs.finding.strings_len.Given as goal
 
 abbrev pub invariant-loop-count : goal.invariant-loop-count

@@ -1,4 +1,4 @@
-use Rattle.std.proofs.Common.{◌≡◌, ◌<◌, ◌≢◌, ℕ, List, [], ◌∷◌, arith, length, rules}
+use Rattle.std.proofs.Common.{◌≡◌, ◌<◌, arith, length, rules}
 use Rattle.std.proofs.lemmas.Bool.Decides.{nat_tests}
 use Rattle.std.specs.Prelude.{min}
 use Rattle.cl_literals.proofs.Sequences.{one_more, some_length}

@@ -1,7 +1,6 @@
-use Rattle.std.proofs.Common.{◌≡◌, ℕ, Bool, Option, sym, ap, ◌∙◌}
-use Rattle.cl_layout.specs.declared.layout.Layout.{Layout}
+use Rattle.std.proofs.Common.{sym, ap, ◌∙◌}
 use Rattle.cl_layout.specs.declared.layout.Layout.TheVariants.{Unknown}
-use Rattle.cl_layout.specs.Layouts.{AreLayouts, layout_at}
+use Rattle.cl_layout.specs.Layouts.{layout_at}
 use Rattle.cl_layout.proofs.Steps.{known_found, placed, pushed}
 use Rattle.cl_layout.proofs.work.Work.place_next.Goals as goal
 
