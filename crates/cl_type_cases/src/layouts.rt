@@ -33,15 +33,23 @@ fn copied(alloc: Global, members: &[Member]) -> Mem<List<Member>>
     ensures { IfOk result (λ list. list ≡ members.now) }
 {
     let mut list = List::new(alloc);
-    for member in members {
-        let ty = member.ty.duplicate(alloc)?;
-        list.push(Member {
-            decl: member.decl,
-            ty,
-            width: member.width,
-        })?;
+    let mut rest = members;
+    while let Some((member, more)) = rest.split_first() {
+        list.push(copy_of(alloc, member)?)?;
+        rest = more;
     }
     Ok(list)
+}
+
+fn copy_of(alloc: Global, member: &Member) -> Mem<Member>
+    ensures { IfOk result (λ copy. copy ≡ member.now) }
+{
+    let ty = member.ty.duplicate(alloc)?;
+    Ok(Member {
+        decl: member.decl,
+        ty,
+        width: member.width,
+    })
 }
 
 /// A member: the chain of its type, and behind `:` its width.
