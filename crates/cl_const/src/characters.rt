@@ -102,7 +102,7 @@ fn stands(char_type: CharType, code: Option<Code>) -> bool
 
 /// How long the character or the escape sequence is, if one begins there. A byte at which no character begins stands
 /// alone, and is none.
-fn c_char_len(text: &[u8]) -> usize
+pub fn c_char_len(text: &[u8]) -> usize
     requires { 0 < length text.now }
     ensures value { result ≡ c_char_len text.now }
     ensures some { 0 < result }

@@ -44,7 +44,7 @@ pub fn integer(text: &[u8]) -> Option<Number>
 }
 
 /// The base that the text's front tells.
-fn base_of(text: &[u8]) -> Base
+pub fn base_of(text: &[u8]) -> Base
     ensures { result ≡ base_of text.now }
 {
     match text {
@@ -55,7 +55,7 @@ fn base_of(text: &[u8]) -> Base
 }
 
 /// How many bytes stand before the digits.
-fn front_len(text: &[u8], base: Base) -> usize
+pub fn front_len(text: &[u8], base: Base) -> usize
     requires { base ≡ base_of text.now }
     ensures value { result ≡ front_len base }
     ensures within { result ≤ length text.now }

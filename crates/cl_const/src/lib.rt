@@ -11,8 +11,10 @@ mod number;
 mod operators;
 mod scalars;
 
-pub use characters::{Constant, character};
-pub use integers::integer;
+pub use char_type::{CharType, fits};
+pub use characters::{Constant, c_char_len, character};
+pub use escape::{Code, code_of};
+pub use integers::{Base, base_of, digit_count, digits_value, front_len, integer};
 pub use laws::{characters_by_utf8, integers_by_grammar, results_have_types};
 pub use number::Number;
 pub use operators::{

@@ -34,6 +34,10 @@ pub(crate) fn base(alloc: Global, letter: u8) -> Mem<CType> {
         b'u' => tag(alloc, 2, TagWord::Union, "U"),
         b'e' => tag(alloc, 3, TagWord::Enum, "E"),
         b'T' => Ok(CType::Tag(DeclNo(4), TagWord::Struct, None)),
+        b'X' => Ok(CType::Tag(DeclNo(0), TagWord::Struct, None)),
+        b'Y' => Ok(CType::Tag(DeclNo(0), TagWord::Union, None)),
+        b'Z' => Ok(CType::Tag(DeclNo(1), TagWord::Struct, None)),
+        b'W' => Ok(CType::Tag(DeclNo(1), TagWord::Union, None)),
         _ => Ok(CType::Error),
     }
 }

@@ -4,6 +4,9 @@
 
 mod chains;
 mod conversions;
+mod escape;
+mod layouts;
+mod literals;
 mod specifiers;
 mod table;
 mod types;

@@ -1,7 +1,7 @@
 //! A table of cases. A line with ` => ` is a case: what is given, and behind the arrow what it comes to. Of the other lines
 //! `[section]` begins a section, and all else says nothing. What is given may have two parts, with ` | ` between them.
 
-use crate::{conversions, specifiers, types};
+use crate::{conversions, layouts, literals, specifiers, types};
 use cl_base::Mem;
 use std::alloc::Global;
 
@@ -42,6 +42,16 @@ enum Section {
     Storage,
     /// Specifiers and a place, with whether they may stand there.
     Stand,
+    /// A number, with its value and type (6.4.4.1, 6.4.4.2).
+    Numbers,
+    /// A character constant, with its value and type (6.4.4.4).
+    Characters,
+    /// Adjacent string literals, with how many elements they make and of which type (6.4.5).
+    Strings,
+    /// Tokens, with their faults.
+    Faults,
+    /// Structures and unions, with where the members of the last one begin, its size and its alignment (6.7.2.1).
+    Layouts,
 }
 
 /// What stands between the lines of a table.
@@ -98,6 +108,11 @@ fn found(alloc: Global, section: Section, first: &str, second: &str) -> Mem<Stri
         Section::Qualified => specifiers::qualified_of(alloc, first, second),
         Section::Storage => specifiers::stored(alloc, first),
         Section::Stand => specifiers::stands(alloc, first, second),
+        Section::Numbers => literals::number_of(alloc, first),
+        Section::Characters => literals::character_of(alloc, first),
+        Section::Strings => literals::string_of(alloc, first),
+        Section::Faults => literals::faults_of(alloc, first),
+        Section::Layouts => layouts::layout_of(alloc, first),
     }
 }
 
@@ -119,6 +134,11 @@ fn section_of(name: &str) -> Section {
         "[qualified]" => Section::Qualified,
         "[storage]" => Section::Storage,
         "[stand]" => Section::Stand,
+        "[numbers]" => Section::Numbers,
+        "[characters]" => Section::Characters,
+        "[strings]" => Section::Strings,
+        "[faults]" => Section::Faults,
+        "[layouts]" => Section::Layouts,
         _ => Section::Printed,
     }
 }

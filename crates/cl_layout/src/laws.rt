@@ -1,0 +1,19 @@
+//! What holds of each structure whose layout is known.
+
+ghost use Rattle.std.specs.Prelude.{◌≡◌, ◌*◌, ℕ, Bool, List, Some, false};
+ghost use Rattle.cl_types.specs.declared.unit.Member.{Member};
+ghost use Rattle.cl_layout.specs.declared.layout.Layout.{Layout};
+ghost use Rattle.cl_layout.specs.declared.layout.Layout.TheVariants as make;
+ghost use Rattle.cl_layout.specs.Layouts.{content_layout, member_offsets};
+ghost use Rattle.cl_layout.specs.Places.{AreInPlace, LieApart, extents};
+
+/// No two members of a structure share a bit, and each lies within it.
+pub fn members_apart()
+    ensures { (layouts : Bool → ℕ → Layout) (members : List Member) (size align : ℕ) → content_layout layouts false (Some members) ≡ make.Known size align → LieApart 0 (member_offsets layouts false (Some members)) (extents layouts members) (8 * size) }
+{}
+
+/// A member of a structure that is no bit-field begins at a multiple of its alignment, and a bit-field lies within one unit of its
+/// type.
+pub fn members_in_place()
+    ensures { (layouts : Bool → ℕ → Layout) (members : List Member) (size align : ℕ) → content_layout layouts false (Some members) ≡ make.Known size align → AreInPlace layouts (member_offsets layouts false (Some members)) members }
+{}
