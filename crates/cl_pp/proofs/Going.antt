@@ -30,7 +30,7 @@ use Rattle.cl_pp.proofs.Shapes.{stop_at}
 use Rattle.cl_pp.proofs.Standing.{Stand, stand_on, stand_start, top_answers}
 use Rattle.cl_pp.proofs.Straying.{next_of}
 
-pick : Bool → Type 0
+abbrev pick : Bool → Type 0
 pick false = ⊥
 pick true = Unit {0}
 

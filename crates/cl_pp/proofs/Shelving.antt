@@ -9,7 +9,6 @@ use Rattle.std.proofs.lemmas.Map.Lookups.{exact_bytes}
 use Rattle.cl_base.specs.declared.headers.Known.{Known}
 use Rattle.cl_base.specs.declared.headers.Known.TheVariants as state
 use Rattle.cl_headers.specs.declared.resolving.Resolved.{Resolved}
-use Rattle.cl_headers.specs.declared.resolving.Resolved.TheVariants as resolved
 use Rattle.cl_headers.specs.Resolving.{ComesTo, Resolves, decided, missing}
 use Rattle.cl_pp.specs.declared.aim.Target.{Target}
 use Rattle.cl_pp.specs.declared.done.PpDone.{PpDone}

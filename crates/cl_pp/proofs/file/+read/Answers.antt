@@ -1,5 +1,8 @@
-use Rattle.std.proofs.Common.{◌≡◌, ℕ, List, refl, sym, ap, ◌∙◌, subst, length, rules}
-use Rattle.std.specs.Prelude.{reverse, slice_index_or}
+use Rattle.std.proofs.Common.{◌≡◌, List, refl, sym, ap, ◌∙◌, subst, length, rules, true}
+use Rattle.std.specs.Prelude.{ℕ, IfSome, reverse, slice_index_or}
+use Rattle.cl_base.specs.declared.headers.Known.{Known}
+use Rattle.cl_base.specs.declared.headers.Known.TheVariants as state
+use Rattle.cl_pp.specs.code.Reaching.{IsLaid}
 use Rattle.cl_cond.specs.declared.mark.Mark.{Mark}
 use Rattle.cl_cond.specs.declared.mark.Part.TheVariants.{Line}
 use Rattle.cl_pp.specs.Lines.{line_of}
@@ -12,12 +15,13 @@ use Rattle.cl_pp.proofs.Going.{gone_end, gone_first, gone_on, gone_past, gone_st
 use Rattle.cl_pp.proofs.Lying.{line_lies}
 use Rattle.cl_pp.proofs.Reading.{in_below, in_known, in_lexed, keeps_events, line_deps, noted_first, noted_then, reached_none, reached_some, reads_over, suits_lexed, within_tokens}
 use Rattle.cl_pp.proofs.file.+read.Goals as goal
-use Rattle.cl_pp.proofs.file.+read.Goals.{in-Some+in_ok-read, in_default}
+use Rattle.cl_pp.proofs.file.+read.Goals.{in-Some+in_ok-opened+in_ok-read, in_default}
 
 pub loop-mark-init : goal.loop-mark-init
 loop-mark-init g t c = record {
   sees = search rules;
   fixed = refl;
+  sound = c.requires.sound;
   noted = noted_first (g.V.HeaderView.known c.args.view.now) c.begin.new.made.done.deps (g.V.HeaderView.asked c.args.view.now);
   keeps = λ start k. k;
   gone = λ w s i k. gone_first w c.as_slice-tokens.result.now c.as_slice-marks.result.now c.begin.new.made.done c.new-sections.result c.new-sections.ensures;
@@ -94,7 +98,7 @@ loop-mark-preserved g t c =
     (λ w s e. c.in_ok-came.ensures.done w s (within_tokens text w.text c.args.entry.now.opened.now.lexed.tokens tokens c.as_slice-tokens.ensures.value (sym e) o.order)) in
     let going = c.is_stopped.ensures in
     elim c.match-branch-4.branch [
-      | in-Some+in_ok-read x ↦
+      | in-Some+in_ok-opened+in_ok-read x ↦
           let same = c.in_ok-found.ensures.fixed ∙ v.fixed in
           record {
             sees = rw x.made-is x.in_ok-read.ensures.sees;
@@ -135,3 +139,15 @@ loop-mark-preserved g t c =
                 c.in_ok-came.ensures.sections (v.gone w s i k));
           }
     ]
+
+pub read-requires : goal.read-requires
+read-requires g t c =
+    let known = g.V.HeaderView.known in
+    let v = c.loop-mark.invariant in
+    let f = c.in-Some.found in
+    let found : known c.loop-mark.view f.path ≡ state.Found f.text = subst (λ o. IfSome o (λ f. known c.loop-mark.view f.path ≡ state.Found f.text)) c.in-Some.is c.in_ok-found.ensures.known in
+    let here : known c.args.view.now f.path ≡ state.Found f.text = subst (λ (h : List ℕ → Known). h f.path ≡ state.Found f.text) v.fixed found in
+    let same = c.in_ok-found.ensures.fixed ∙ v.fixed in
+    let laid : IsLaid c.bytes.result.now c.deref.result.now = rw (c.bytes.ensures.value, c.deref.ensures) (c.in_ok-opened.ensures.laid (known c.args.view.now) v.sound here) in
+    let sound : IsSound (known c.reach.new.view) c.open.new.self = subst (λ (h : List ℕ → Known). IsSound h c.open.new.self) (sym same) (c.in_ok-opened.ensures.sound (known c.args.view.now) v.sound here) in
+    search (rules, laid, sound)
