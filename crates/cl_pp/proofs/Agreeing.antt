@@ -1,9 +1,8 @@
 -- What is known of a header matters only where it was asked for.
-use Rattle.std.proofs.Common.{◌≡◌, ℕ, Bool, true, false, List, [], ◌∷◌, ◌++◌, refl, sym, ap, subst, ◌∙◌, map, append_assoc}
+use Rattle.std.proofs.Common.{◌≡◌, ℕ, List, [], ◌∷◌, ◌++◌, refl, sym, ap, subst, ◌∙◌, map, append_assoc}
 use Rattle.std.proofs.lemmas.List.{append-nil}
 use Rattle.std.specs.List.{AllByRecursion}
 use Rattle.cl_base.specs.declared.headers.Known.{Known}
-use Rattle.cl_base.specs.declared.headers.Known.TheVariants as state
 use Rattle.cl_base.specs.declared.token.Token.{Token}
 use Rattle.cl_cond.specs.declared.mark.Mark.{Mark}
 use Rattle.cl_headers.specs.declared.dep.Dep.{Dep}
@@ -14,9 +13,8 @@ use Rattle.cl_pp.specs.declared.aim.Aim.{Aim}
 use Rattle.cl_pp.specs.declared.aim.Target.{Target}
 use Rattle.cl_pp.specs.declared.done.PpDone.{PpDone}
 use Rattle.cl_pp.specs.declared.done.PpAnswer.{PpAnswer}
-use Rattle.cl_pp.specs.Preprocessing.{Arrival, Before, Does, Enters, Finds, Goes, Preprocesses, PreprocessesFrom, Reads, State, Stays, World, arrived, arrived_in}
+use Rattle.cl_pp.specs.Preprocessing.{Arrival, Before, Does, Enters, Goes, PreprocessesFrom, Reads, State, Stays, World, arrived, arrived_in}
 use Rattle.cl_pp.specs.Preprocessing.{deep, end, enters, line, nothing, once, read, stays, stop}
-use Rattle.cl_pp.specs.Standing.{with_asked_paths}
 use Rattle.cl_pp.proofs.Adding.{line_adds}
 use Rattle.cl_pp.proofs.Needing.{arrival_deps, marked_deps}
 

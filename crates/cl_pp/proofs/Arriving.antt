@@ -1,5 +1,5 @@
 -- What is done where a line aims at a header.
-use Rattle.std.proofs.Common.{◌≡◌, ℕ, ◌<◌, ◌≤◌, List, Option, Some, None, ◌++◌, refl, sym, ap, subst, ◌∙◌, map}
+use Rattle.std.proofs.Common.{◌≡◌, ℕ, ◌<◌, List, Option, Some, None, ◌++◌, sym, ap, subst, ◌∙◌, map}
 use Rattle.cl_base.specs.declared.config.Settings.{Settings}
 use Rattle.cl_base.specs.declared.headers.Known.{Known}
 use Rattle.cl_headers.specs.declared.dep.Dep.{Dep}
@@ -7,13 +7,13 @@ use Rattle.cl_headers.specs.declared.resolving.Resolved.{Resolved}
 use Rattle.cl_headers.specs.Noting.{Searches, dep_of}
 use Rattle.cl_headers.specs.Resolving.{Resolves, candidates}
 use Rattle.cl_paths.specs.Parts.{folder}
-use Rattle.cl_pp.specs.declared.aim.Aim.TheVariants.{Nothing, Once, Header}
+use Rattle.cl_pp.specs.declared.aim.Aim.TheVariants.{Once, Header}
 use Rattle.cl_pp.specs.declared.aim.Target.{Target}
 use Rattle.cl_pp.specs.declared.done.PpDone.{PpDone}
 use Rattle.cl_pp.specs.declared.made.Entry.{Entry}
 use Rattle.cl_pp.specs.declared.made.Found.{Found}
-use Rattle.cl_pp.specs.Preprocessing.{Does, World, deep, enters, header_fault, marked, once, stays}
-use Rattle.cl_pp.specs.Standing.{with_asked_paths, with_faults}
+use Rattle.cl_pp.specs.Preprocessing.{Does, World, enters, marked, once, stays}
+use Rattle.cl_pp.specs.Standing.{with_asked_paths}
 use Rattle.cl_pp.specs.code.Reaching.{Arrives, IsIn, Looks, Reaches}
 
 pub looks_is : (w : World) (entry : Entry) (config : Settings) (known : List ℕ → Known) (target : Target) (above name : List ℕ) (old new : PpDone) (deps : List Dep) (before after : List (List ℕ)) (resolved : Resolved) (found : Option Found)

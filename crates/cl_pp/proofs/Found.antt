@@ -1,12 +1,9 @@
 -- What was found is what becomes of the text.
-use Rattle.std.proofs.Common.{◌≡◌, ℕ, ◌+◌, List, [], Option, Some, None, refl, sym, ap, subst, ◌∙◌, length, arith}
+use Rattle.std.proofs.Common.{◌≡◌, ℕ, List, [], Option, Some, None, sym, ap, subst, ◌∙◌, length, arith}
 use Rattle.cl_base.specs.declared.config.Settings.{Settings}
 use Rattle.cl_base.specs.declared.headers.Known.{Known}
-use Rattle.cl_base.specs.declared.macros.Macro.{Macro}
 use Rattle.cl_base.specs.declared.macros.MacroEvent.{MacroEvent}
-use Rattle.cl_base.specs.declared.macros.MacroNo.{MacroNo}
 use Rattle.cl_macro.specs.declared.table.MacroTable.{MacroTable}
-use Rattle.cl_macro.specs.Starting.{start_of}
 use Rattle.cl_pp.specs.declared.done.PpAnswer.{PpAnswer}
 use Rattle.cl_pp.specs.declared.done.PpDone.{PpDone}
 use Rattle.cl_pp.specs.declared.start.PpState.{PpState}

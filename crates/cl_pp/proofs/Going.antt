@@ -1,6 +1,6 @@
 -- The lines of a file, one after the other.
 use Rattle.std.proofs.Common.{◌≡◌, ℕ, ◌+◌, ◌<◌, ◌≤◌, List, [], ◌∷◌, Option, refl, sym, subst, length, drop, get_or, Bool, true, false}
-use Rattle.std.specs.Prelude.{reverse}
+use Rattle.std.specs.Prelude.{reverse, not, if◌then◌else◌}
 use Rattle.std.specs.Ordering.{nat_cmp}
 use Rattle.std.specs.BTreeMap.{get}
 use Rattle.std.proofs.lemmas.List.{drop_all}
@@ -9,23 +9,37 @@ use Rattle.cl_base.specs.declared.macros.MacroNo.{MacroNo}
 use Rattle.cl_base.specs.declared.token.Token.{Token}
 use Rattle.cl_base.specs.declared.token.Fault.{Fault}
 use Rattle.cl_pp.specs.declared.aim.Aim.{Aim}
+use Rattle.cl_pp.specs.declared.aim.Aim.TheVariants.{Nothing}
 use Rattle.cl_pp.specs.declared.done.PpDone.{PpDone}
 use Rattle.cl_cond.specs.declared.mark.Mark.{Mark}
+use Rattle.cl_cond.specs.declared.mark.Part.{Part}
+use Rattle.cl_cond.specs.declared.mark.Part.TheVariants.{Line, Branch, End}
 use Rattle.cl_pp.specs.declared.section.Section.{Section}
 use Rattle.cl_pp.specs.declared.made.File.{File}
 use Rattle.cl_macro.specs.declared.table.MacroTable.{MacroTable}
 use Rattle.cl_pp.specs.Activity.{Passed, Question, says}
-use Rattle.cl_pp.specs.Acts.{act}
+use Rattle.cl_pp.specs.Acts.{Gives, act, at_line}
 use Rattle.cl_pp.specs.Lines.{line_of}
-use Rattle.cl_pp.specs.Preprocessing.{ComesTo, Does, Goes, State, World, end, line, rules_in}
+use Rattle.cl_pp.specs.Preprocessing.{ComesTo, Does, Goes, State, World, end, line, nothing, rules_in}
 use Rattle.cl_pp.specs.Standing.{is_stopped, macro_at, number_at}
 use Rattle.cl_pp.specs.Taking.{Comes}
 use Rattle.cl_pp.specs.code.Going.{ComesBy}
 use Rattle.cl_pp.specs.code.Keeping.{Keeps, Suits, lookup, number_of}
-use Rattle.cl_pp.specs.code.Stacks.{stacked, tell, top_of}
+use Rattle.cl_pp.specs.code.Stacks.{is_skipped, stacked, tell, top_of}
 use Rattle.cl_pp.proofs.Shapes.{stop_at}
 use Rattle.cl_pp.proofs.Standing.{Stand, stand_on, stand_start, top_answers}
 use Rattle.cl_pp.proofs.Straying.{next_of}
+
+abbrev pick : Bool → Type 0
+pick false = ⊥
+pick true = Unit {0}
+
+apart : false ≡ true → ⊥
+apart e = subst (λ (x : Bool). pick x) (sym e) tt
+
+not_active : (b : Bool) → not b ≡ true → b ≡ false
+not_active true h = absurd (apart h)
+not_active false h = refl
 
 -- so many lines are passed: whatever comes of the others comes of all
 pub record Gone (w : World) (tokens : List Token) (marks : List Mark) (first now : PpDone) (sections : List Section) (i : ℕ) : Type 0 where
@@ -65,6 +79,30 @@ gone_on file w macros tokens marks i d mark first old mid new before after held 
       stands = subst (Stand (passed ∷ g.past)) (sym n) (stand_on g.past before passed g.stands);
       goes = λ t later. goes t (line w tokens mark (drop (i + 1) marks) (record { past = g.past; done = old }) held aim mid new t f (as_line file w macros tokens mark g.past before old mid held aim s k g.stands h) x later);
     }
+
+-- nothing is done with a line that is skipped
+inactive : (file : File) (w : World) (macros : MacroTable) (whole : List Token) (done : PpDone) (b : Bool) → b ≡ false
+    → Comes file.number (rules_in w (lookup macros)) (number_of macros) whole (if b then at_line file.number (get nat_cmp file.told.now) whole done else Gives false done) false Nothing done
+inactive file w macros whole done true e = absurd (apart (sym e))
+inactive file w macros whole done false e = (refl, (refl, refl))
+
+skipped_comes : (file : File) (w : World) (macros : MacroTable) (part : Part) (whole : List Token) (top : Section) (done : PpDone) → is_skipped part top ≡ true
+    → Comes file.number (rules_in w (lookup macros)) (number_of macros) whole (act file.number (get nat_cmp file.told.now) (lookup macros) part (tell top) whole done) false Nothing done
+skipped_comes file w macros Line whole top done h = inactive file w macros whole done top.active (not_active top.active h)
+skipped_comes file w macros End whole top done h = absurd (apart h)
+skipped_comes file w macros (Branch c) whole top done h = absurd (apart h)
+
+skipped_stack : (part : Part) (top : Section) (stack : List Section) → is_skipped part top ≡ true → stacked part false stack ≡ stack
+skipped_stack Line top stack h = refl
+skipped_stack End top stack h = absurd (apart h)
+skipped_stack (Branch c) top stack h = absurd (apart h)
+
+pub gone_past : (file : File) (w : World) (macros : MacroTable) (tokens : List Token) (marks : List Mark) (i : ℕ) (d mark : Mark) (first old : PpDone) (sections : List Section)
+    → i < length marks → mark ≡ get_or marks i d → is_stopped old ≡ false → Suits file w → Keeps w.start macros old → is_skipped mark.part (top_of sections) ≡ true
+    → Gone w tokens marks first old sections i → Gone w tokens marks first old sections (i + 1)
+gone_past file w macros tokens marks i d mark first old sections l e f s k h g =
+    gone_on file w macros tokens marks i d mark first old old old sections sections false Nothing l e f s k
+    (skipped_comes file w macros mark.part (line_of tokens mark) (top_of sections) old h) (nothing w old) (sym (skipped_stack mark.part (top_of sections) sections h)) g
 
 -- from the first line on they are gone over
 pub record Over (w : World) (tokens : List Token) (marks : List Mark) (old new : PpDone) : Type 0 where

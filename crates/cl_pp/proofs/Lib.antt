@@ -13,6 +13,7 @@ mod Events
 mod Replaces
 mod Naming
 mod Arriving
+mod Shelving
 mod Opening
 mod Reading
 mod Placing

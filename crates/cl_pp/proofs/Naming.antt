@@ -1,12 +1,10 @@
 -- Headers that are named in UTF-8, or not.
-use Rattle.std.proofs.Common.{◌≡◌, ℕ, Bool, true, false, List, Option, Some, ◌++◌, IsUtf8, refl, sym, ap, subst, ◌∙◌}
+use Rattle.std.proofs.Common.{◌≡◌, ℕ, Bool, true, false, List, Some, IsUtf8, refl, ap}
 use Rattle.std.specs.Prelude.{if◌then◌else◌, slice_get}
 use Rattle.std.specs.Str.{is_utf8}
 use Rattle.std.proofs.lemmas.Str.{is_utf8-from_IsUtf8, IsUtf8-from_is_utf8}
-use Rattle.cl_base.specs.declared.token.Diag.{Diag}
 use Rattle.cl_base.specs.declared.token.PpToken.{PpToken}
 use Rattle.cl_base.specs.declared.token.Token.{Token}
-use Rattle.cl_pp.specs.declared.aim.Aim.{Aim}
 use Rattle.cl_pp.specs.declared.aim.Aim.TheVariants.{Nothing, Header}
 use Rattle.cl_pp.specs.declared.aim.Named.{Named}
 use Rattle.cl_pp.specs.Including.{aim_of, extra_made, included}

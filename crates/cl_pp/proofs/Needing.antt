@@ -2,7 +2,6 @@
 use Rattle.std.proofs.Common.{◌≡◌, ℕ, suc, ◌-◌, Bool, true, false, List, [], ◌∷◌, ◌++◌, Option, Some, None, refl, sym, ap, subst, ◌∙◌, arith, length, map, append_assoc}
 use Rattle.std.specs.Prelude.{if◌then◌else◌, ◌==◌, slice_get}
 use Rattle.cl_base.specs.declared.headers.Known.{Known}
-use Rattle.cl_base.specs.declared.headers.Known.TheVariants as state
 use Rattle.cl_base.specs.declared.token.Token.{Token}
 use Rattle.cl_cond.specs.declared.mark.Mark.{Mark}
 use Rattle.cl_headers.specs.declared.dep.Dep.{Dep}
@@ -15,7 +14,7 @@ use Rattle.cl_pp.specs.declared.aim.Target.{Target}
 use Rattle.cl_pp.specs.declared.done.PpDone.{PpDone}
 use Rattle.cl_pp.specs.Preprocessing.{Arrival, Does, Enters, Goes, Reads, State, Stays, World, arrived, arrived_in, marked}
 use Rattle.cl_pp.specs.Preprocessing.{deep, end, enters, line, nothing, once, read, stays, stop}
-use Rattle.cl_pp.specs.Standing.{first_unknown, is_once, is_stopped, is_unknown, last_of, number_in, stopped_by, wanted, wanted_by, with_asked_paths, with_file, with_once}
+use Rattle.cl_pp.specs.Standing.{first_unknown, is_once, is_unknown, last_of, number_in, stopped_by, wanted, wanted_by, with_asked_paths, with_file, with_once}
 use Rattle.cl_pp.proofs.Adding.{line_adds}
 
 abbrev pick : Option (List ℕ) → Type 0

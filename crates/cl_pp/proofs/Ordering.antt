@@ -2,7 +2,7 @@
 use Rattle.std.proofs.Common.{◌≡◌, ℕ, zero, suc, ◌-◌, ◌≤◌, Bool, true, false, List, [], ◌∷◌, ◌++◌, Option, refl, sym, ap, subst, ◌∙◌, arith, length, take, drop, append_assoc, append-nil, inl, inr}
 use Rattle.std.proofs.Math.Seq.{drop-nil}
 use Rattle.std.proofs.lemmas.Bool.Decides.{nat_tests}
-use Rattle.std.specs.Prelude.{◌⊎◌, ◌==◌, if◌then◌else◌, filter}
+use Rattle.std.specs.Prelude.{◌==◌, if◌then◌else◌}
 use Rattle.cl_base.specs.declared.macros.MacroNo.{MacroNo}
 use Rattle.cl_base.specs.declared.token.PpToken.{PpToken}
 use Rattle.cl_base.specs.declared.token.Span.{Span}
@@ -18,7 +18,7 @@ use Rattle.cl_pp.specs.declared.aim.Target.{Target}
 use Rattle.cl_pp.specs.declared.done.PpDone.{PpDone}
 use Rattle.cl_pp.specs.Lines.{line_of}
 use Rattle.cl_pp.specs.Places.{Follows, InOrder, MarksLie, in_document, nowhere}
-use Rattle.cl_pp.specs.Preprocessing.{Arrival, Does, Enters, Goes, Reads, State, Stays, World, arrived, arrived_in, behind, marked}
+use Rattle.cl_pp.specs.Preprocessing.{Arrival, Does, Enters, Goes, Reads, State, Stays, World, arrived, arrived_in}
 use Rattle.cl_pp.specs.Preprocessing.{deep, end, enters, line, nothing, once, read, stays, stop}
 use Rattle.cl_pp.specs.Standing.{is_once, number_in, with_asked_paths, with_file, with_once}
 use Rattle.cl_pp.proofs.Adding.{Adds, line_adds}

@@ -21,10 +21,9 @@ use Rattle.cl_pp.specs.declared.made.Entry.{Entry}
 use Rattle.cl_pp.specs.declared.made.File.{File}
 use Rattle.cl_pp.specs.declared.made.Found.{Found}
 use Rattle.cl_pp.specs.declared.made.Opened.{Opened}
-use Rattle.cl_pp.specs.Acts.{act}
 use Rattle.cl_pp.specs.Activity.{Question}
 use Rattle.cl_pp.specs.Places.{Within}
-use Rattle.cl_pp.specs.Preprocessing.{Does, Goes, Reads, State, World, begin, below, lexed_by, read, rules_in}
+use Rattle.cl_pp.specs.Preprocessing.{Does, Goes, Reads, World, begin, below, lexed_by, read, rules_in}
 use Rattle.cl_pp.specs.Runs.{runs}
 use Rattle.cl_pp.specs.Standing.{Start, meant, numbered}
 use Rattle.cl_pp.specs.code.Going.{ComesBy}

@@ -1,5 +1,5 @@
 -- The lines of a file: their tokens, and what is wrong with their directives (N1570 6.10).
-use Rattle.std.specs.Prelude.{ℕ, ◌-◌, ◌==◌, ◌&&◌, ◌||◌, not, List, [], ◌∷◌, ◌++◌, Bool, true, false, if◌then◌else◌, Option, Some, None, map, length, slice_get, slice_range, codes}
+use Rattle.std.specs.Prelude.{ℕ, ◌-◌, ◌==◌, ◌&&◌, ◌||◌, not, List, [], ◌∷◌, ◌++◌, Bool, false, if◌then◌else◌, Option, Some, None, map, length, slice_get, slice_range, codes}
 use Rattle.cl_base.specs.declared.token.Kind.{Kind}
 use Rattle.cl_base.specs.declared.token.Kind.TheVariants as kind
 use Rattle.cl_base.specs.declared.token.Span.{Span}

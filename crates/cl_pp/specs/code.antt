@@ -5,3 +5,4 @@ pub mod Numbers
 pub mod Defining
 pub mod Operands
 pub mod Reaching
+pub mod Shelving

@@ -8,15 +8,17 @@ ghost use Rattle.cl_pp.specs.Preprocessing.{Reads, World};
 ghost use Rattle.cl_pp.specs.Standing.{Start};
 ghost use Rattle.cl_pp.specs.code.Going.{ComesBy};
 ghost use Rattle.cl_pp.specs.code.Keeping.{Keeps, Sees, Suits};
-ghost use Rattle.cl_pp.specs.code.Reaching.{IsIn};
+ghost use Rattle.cl_pp.specs.code.Reaching.{IsIn, IsLaid};
+ghost use Rattle.cl_pp.specs.code.Shelving.{IsSound};
 ghost use Rattle.cl_pp.specs.code.Stacks.{stacked, tell, top_of};
 
 use crate::act::act;
 use crate::aim::Came;
 use crate::made::{Entry, File, Made};
-use crate::open::open;
+use crate::open::begin;
 use crate::reach::{is_stopped, reach};
-use crate::section::{Section, pass, top};
+use crate::section::{Section, is_skipped, pass, top};
+use crate::shelf::Shelf;
 use cl_base::{Config, List, Mem, Token};
 use cl_cond::Mark;
 use cl_headers::HeaderView;
@@ -30,17 +32,22 @@ pub(crate) fn read<V: HeaderView>(
     view: &mut V,
     table: &mut MacroTable,
     made: &mut Made,
+    shelf: &mut Shelf,
     entry: &Entry,
 ) -> Mem<()>
     requires depth { entry.now.depth ≤ 200 }
+    requires laid { IsLaid entry.now.text.now entry.now.opened.now }
+    requires sound { IsSound (V.known view.now) shelf.now }
     requires sees { Sees made.now }
     ensures done { (w : World) → IsIn entry.now config.now (V.known view.old) w → Keeps w.start table.old made.old.done → OnOk result (Reads w made.old.done made.new.done) }
     ensures keeps { (start : Start) → Keeps start table.old made.old.done → OnOk result (Keeps start table.new made.new.done) }
     ensures sees { OnOk result (Sees made.new) }
     ensures fixed { V.known view.new ≡ V.known view.old }
+    ensures sound { OnOk result (IsSound (V.known view.old) shelf.new) }
     ensures noted { OnOk result (IsNoted (V.known view.old) made.old.done.deps made.new.done.deps (V.asked view.old) (V.asked view.new)) }
 {
-    let opened = open(alloc, entry, made)?;
+    begin(made, entry)?;
+    let opened = entry.opened;
     let file = File {
         number: entry.number,
         path: entry.path,
@@ -54,15 +61,20 @@ pub(crate) fn read<V: HeaderView>(
         if is_stopped(&made.done) {
             return Ok(());
         }
+        if is_skipped(mark.part, sections.as_slice()) {
+            continue;
+        }
         let came = take_line(alloc, &file, tokens, *mark, &mut sections, table, made)?;
         if let Some(found) = reach(alloc, config, view, made, entry, came.aim)? {
+            let opened = shelf.open(alloc, &found)?;
             let next = Entry {
                 number: found.number,
                 depth: entry.depth + 1,
                 path: &found.path,
                 text: found.text.bytes(),
+                opened: &opened,
             };
-            read(alloc, config, view, table, made, &next)?;
+            read(alloc, config, view, table, made, shelf, &next)?;
         }
     }
     Ok(())

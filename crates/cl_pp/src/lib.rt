@@ -21,6 +21,7 @@ mod reach;
 mod replacing;
 mod run;
 mod section;
+mod shelf;
 mod start;
 mod stray;
 mod token;

@@ -14,13 +14,15 @@ pub(crate) struct File<'a> {
     pub(crate) told: &'a BTreeMap<u32, Fault>,
 }
 
-/// A file that is to be gone over: its number, how many include lines lead to it, its path and its text.
+/// A file that is to be gone over: its number, how many include lines lead to it, its path, its text, and what the text's
+/// tokens and lines are.
 #[derive(Clone, Copy)]
 pub(crate) struct Entry<'a> {
     pub(crate) number: u32,
     pub(crate) depth: u32,
     pub(crate) path: &'a Path,
     pub(crate) text: &'a [u8],
+    pub(crate) opened: &'a Opened,
 }
 
 /// A header that was found and is to be entered.
@@ -31,10 +33,11 @@ pub(crate) struct Found {
     pub(crate) text: Text,
 }
 
-/// A file's tokens, the lines that they make, and what else lexing tells.
+/// A text's tokens, the faults of its sections, the lines that the tokens make, and what else lexing tells.
 #[derive(Drop)]
 pub(crate) struct Opened {
     pub(crate) lexed: Lexed,
+    pub(crate) faults: List<Fault>,
     pub(crate) marks: List<Mark>,
     pub(crate) lines: LineTable,
     pub(crate) told: BTreeMap<u32, Fault>,

@@ -3,7 +3,7 @@
 ghost use Rattle.std.specs.Prelude.{◌≡◌, ◌++◌, map, OnOk, IfOk};
 ghost use Rattle.cl_pp.specs.Lines.{spread_fault};
 ghost use Rattle.cl_pp.specs.Preprocessing.{open_comments};
-ghost use Rattle.cl_pp.specs.code.Reaching.{IsOpened};
+ghost use Rattle.cl_pp.specs.code.Reaching.{IsLaid, IsOpened};
 
 use crate::made::{Entry, Made, Opened};
 use crate::run::runs;
@@ -14,27 +14,18 @@ use cl_cond::groups;
 use cl_lex::lex;
 use std::alloc::Global;
 
-/// The tokens of a file and its lines. The faults that stand before its first line are added.
-pub(crate) fn open(alloc: Global, entry: &Entry, made: &mut Made) -> Mem<Opened>
-    ensures done { IfOk result (λ opened. IsOpened entry.now.number entry.now.text.now made.old.done opened made.new.done) }
-    ensures events { OnOk result (made.new.done.events ≡ made.old.done.events) }
-    ensures deps { OnOk result (made.new.done.deps ≡ made.old.done.deps) }
-    ensures looked { OnOk result (made.new.done.looked ≡ made.old.done.looked) }
-    ensures seen { OnOk result (made.new.seen ≡ made.old.seen) }
+/// The tokens of a text and its lines.
+pub(crate) fn open(alloc: Global, text: &[u8]) -> Mem<Opened>
+    ensures { IfOk result (λ opened. IsLaid text.now opened) }
 {
-    let lexed = lex(alloc, entry.text)?;
-    let lines = LineTable::new(alloc, entry.text)?;
+    let lexed = lex(alloc, text)?;
+    let lines = LineTable::new(alloc, text)?;
     let groups = groups(alloc, lexed.tokens.as_slice())?;
     let told = told(alloc, lexed.faults.as_slice())?;
     let marks = runs(alloc, lexed.tokens.as_slice(), groups.marks.as_slice())?;
-    first_faults(
-        &mut made.done.faults,
-        entry.number,
-        lexed.faults.as_slice(),
-        groups.faults.as_slice(),
-    )?;
     Ok(Opened {
         lexed,
+        faults: groups.faults,
         marks,
         lines,
         told,
@@ -42,6 +33,25 @@ pub(crate) fn open(alloc: Global, entry: &Entry, made: &mut Made) -> Mem<Opened>
 }
 
 /// Adds the faults that stand before the first line of a file.
+pub(crate) fn begin(made: &mut Made, entry: &Entry) -> Mem<()>
+    requires { IsLaid entry.now.text.now entry.now.opened.now }
+    ensures done { OnOk result (IsOpened entry.now.number entry.now.text.now made.old.done entry.now.opened.now made.new.done) }
+    ensures events { OnOk result (made.new.done.events ≡ made.old.done.events) }
+    ensures deps { OnOk result (made.new.done.deps ≡ made.old.done.deps) }
+    ensures looked { OnOk result (made.new.done.looked ≡ made.old.done.looked) }
+    ensures seen { OnOk result (made.new.seen ≡ made.old.seen) }
+{
+    let opened = entry.opened;
+    first_faults(
+        &mut made.done.faults,
+        entry.number,
+        opened.lexed.faults.as_slice(),
+        opened.faults.as_slice(),
+    )?;
+    Ok(())
+}
+
+/// Adds the faults of comments without an end, and those of sections.
 fn first_faults(all: &mut List<Diag>, file: u32, lexed: &[Fault], groups: &[Fault]) -> Mem<()>
     ensures { OnOk result (all.new ≡ all.old ++ (open_comments file lexed.now ++ map (spread_fault file) groups.now)) }
 {

@@ -1,6 +1,7 @@
 //! Headers that are entered.
 
-ghost use Rattle.std.specs.Prelude.{◌≡◌, ◌<◌, ◌++◌, ◌∷◌, [], if◌then◌else◌, IfOk, OnOk, OnSome};
+ghost use Rattle.std.specs.Prelude.{◌≡◌, ◌<◌, ◌++◌, ◌∷◌, [], if◌then◌else◌, IfOk, OnOk, OnSome, IfSome};
+ghost use Rattle.cl_base.specs.declared.headers.Known.TheVariants as state;
 ghost use Rattle.cl_headers.specs.Noting.{IsNoted};
 ghost use Rattle.cl_pp.specs.declared.aim.Target.{Target as TheTarget};
 ghost use Rattle.cl_pp.specs.Preprocessing.{World, header_fault, marked};
@@ -134,6 +135,7 @@ pub(crate) fn reach<V: HeaderView>(
     requires { Sees made.now }
     ensures done { (w : World) → IsIn entry.now config.now (V.known view.old) w → IfOk result (λ found. Reaches w aim made.old.done made.new.done found) }
     ensures deeper { IfOk result (λ found. OnSome found (entry.now.depth < 200)) }
+    ensures known { IfOk result (λ found. IfSome found (λ f. V.known view.old f.path ≡ state.Found f.text)) }
     ensures fixed { V.known view.new ≡ V.known view.old }
     ensures noted { OnOk result (IsNoted (V.known view.old) made.old.done.deps made.new.done.deps (V.asked view.old) (V.asked view.new)) }
     ensures events { OnOk result (made.new.done.events ≡ made.old.done.events) }
@@ -182,6 +184,7 @@ fn look<V: HeaderView>(
 ) -> Mem<Option<Found>>
     requires { Sees made.now }
     ensures done { (w : World) → IsIn entry.now config.now (V.known view.old) w → IfOk result (λ found. Looks w target.now made.old.done made.new.done found) }
+    ensures known { IfOk result (λ found. IfSome found (λ f. V.known view.old f.path ≡ state.Found f.text)) }
     ensures fixed { V.known view.new ≡ V.known view.old }
     ensures noted { OnOk result (IsNoted (V.known view.old) made.old.done.deps made.new.done.deps (V.asked view.old) (V.asked view.new)) }
     ensures events { OnOk result (made.new.done.events ≡ made.old.done.events) }

@@ -94,6 +94,10 @@ fn reversed<T: Drop>(alloc: Global, items: List<T>) -> Mem<List<T>>
 fn append<T: Drop>(alloc: Global, all: &mut List<T>, more: List<T>) -> Mem<()>
     ensures { OnOk result (all.new ≡ all.old ++ more) }
 {
+    if all.is_empty() {
+        *all = more;
+        return Ok(());
+    }
     let mut items = reversed(alloc, more)?;
     while let Some(item) = items.pop() {
         all.push(item)?;

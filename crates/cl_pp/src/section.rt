@@ -2,7 +2,7 @@
 
 ghost use Rattle.std.specs.Prelude.{◌≡◌, ◌++◌, ◌∷◌, [], ℕ, IfOk, OnOk, slice_index_or, reverse};
 ghost use Rattle.cl_cond.specs.Sections.{opens};
-ghost use Rattle.cl_pp.specs.code.Stacks.{all_active, stacked, tell, top_of, under};
+ghost use Rattle.cl_pp.specs.code.Stacks.{all_active, is_skipped, stacked, tell, top_of, under};
 
 use cl_base::{List, Mem};
 use cl_cond::{Condition, Part};
@@ -42,6 +42,16 @@ pub(crate) fn top(sections: &[Section]) -> Section
     match sections.last() {
         Some(section) => *section,
         None => ALL_ACTIVE,
+    }
+}
+
+/// Whether it is a line that nothing is done with: no branch begins or ends there, and it isn't active.
+pub(crate) fn is_skipped(part: Part, sections: &[Section]) -> bool
+    ensures { result ≡ is_skipped part (top_of (reverse sections.now)) }
+{
+    match part {
+        Part::Line => !top(sections).active,
+        Part::End | Part::Branch(_) => false,
     }
 }
 

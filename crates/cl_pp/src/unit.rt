@@ -10,7 +10,9 @@ ghost use Rattle.cl_pp.specs.Standing.{wanted};
 use crate::done::{PpAnswer, PpDone};
 use crate::file::read;
 use crate::made::{Entry, Made};
+use crate::open::open;
 use crate::reach::wanted;
+use crate::shelf::Shelf;
 use crate::start::PpState;
 use cl_base::{Config, EmptyBase, List, Mem, Path};
 use cl_headers::HeaderView;
@@ -72,13 +74,18 @@ pub fn preprocess<V: HeaderView>(
         },
         seen: BTreeMap::new(alloc),
     };
+    let opened = open(alloc, main)?;
+    let mut shelf = Shelf::new(alloc);
     let entry = Entry {
         number: 0,
         depth: 0,
         path,
         text: main,
+        opened: &opened,
     };
-    read(alloc, config, view, &mut table, &mut made, &entry)?;
+    read(
+        alloc, config, view, &mut table, &mut made, &mut shelf, &entry,
+    )?;
     let answer = answer_of(alloc, made.done)?;
     Ok(answer)
 }

@@ -1,5 +1,5 @@
 -- How the code goes over lines.
-use Rattle.std.specs.Prelude.{◌≡◌, Bool, List}
+use Rattle.std.specs.Prelude.{Bool, List}
 use Rattle.std.specs.Ordering.{nat_cmp}
 use Rattle.std.specs.BTreeMap.{get}
 use Rattle.cl_pp.specs.declared.aim.Aim.{Aim}

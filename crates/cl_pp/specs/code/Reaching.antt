@@ -33,6 +33,18 @@ pub record IsIn (entry : Entry) (config : Settings) (known : List ℕ → Known)
   pub folders : config.includes ≡ w.folders
   pub tells : TellsTokens w.one_token
 
+-- what is told of a text before its first line
+pub record IsLaid (text : List ℕ) (opened : Opened) : Type 0 where
+  pub groups : Groups
+  pub lexes : Lexes text opened.lexed
+  pub order : AreInOrder 0 (length text) opened.lexed.tokens
+  pub grouped : GroupsOf opened.lexed.tokens groups
+  pub faults : opened.faults ≡ groups.faults
+  pub marks : opened.marks ≡ runs opened.lexed.tokens groups.marks
+  pub lie : MarksLie 0 (length opened.lexed.tokens) opened.marks
+  pub lines : IsTableOf opened.lines text
+  pub begins : (at : ℕ) → get nat_cmp opened.told at ≡ told opened.lexed.faults at
+
 -- the file before its first line
 pub record IsOpened (file : ℕ) (text : List ℕ) (old : PpDone) (opened : Opened) (new : PpDone) : Type 0 where
   pub groups : Groups

@@ -18,6 +18,12 @@ abbrev pub top_of : List Section → Section
 top_of [] = all_active
 top_of (s ∷ stack) = s
 
+-- no branch begins or ends at the line, and it isn't active
+abbrev pub is_skipped : Part → Section → Bool
+is_skipped Line s = not s.active
+is_skipped End s = false
+is_skipped (Branch c) s = false
+
 abbrev pub below : List Section → List Section
 below [] = []
 below (s ∷ stack) = stack

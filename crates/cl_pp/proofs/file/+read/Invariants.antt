@@ -4,6 +4,7 @@ use Rattle.cl_pp.specs.Preprocessing.{World}
 use Rattle.cl_pp.specs.Standing.{Start}
 use Rattle.cl_pp.specs.code.Keeping.{Keeps, Sees, Suits}
 use Rattle.cl_pp.specs.code.Reaching.{IsIn}
+use Rattle.cl_pp.specs.code.Shelving.{IsSound}
 use Rattle.cl_pp.proofs.Going.{Gone}
 use Rattle.cl_pp.proofs.file.+read.Given as goal
 
@@ -17,6 +18,7 @@ invariant-loop-mark g l =
     record {
       sees : Sees l.made;
       fixed : known l.view ≡ known l.fn.view;
+      sound : IsSound (known l.fn.view) l.shelf;
       noted : IsNoted (known l.fn.view) l.initial.made.done.deps l.made.done.deps (asked l.initial.view) (asked l.view);
       keeps : (start : Start) → Keeps start l.initial.table l.initial.made.done → Keeps start l.table l.made.done;
       gone : (w : World) → Suits l.file w → IsIn l.entry l.config (known l.fn.view) w → Keeps w.start l.initial.table l.initial.made.done

@@ -1,7 +1,6 @@
-use Rattle.std.proofs.Common.{◌≡◌, ◌++◌, IsUtf8, List, ℕ, ap, sym, subst, ◌∙◌, refl}
+use Rattle.std.proofs.Common.{◌++◌, IsUtf8, List, ap, sym, subst, ◌∙◌}
 use Rattle.cl_base.specs.declared.token.Diag.{Diag}
 use Rattle.cl_pp.specs.declared.aim.Aim.TheVariants.{Header}
-use Rattle.cl_pp.specs.Including.{aim_of}
 use Rattle.cl_pp.proofs.Naming.{named_aim, named_faults, other_aim, other_faults}
 use Rattle.cl_pp.proofs.include.aimed.Goals as goal
 

@@ -1,4 +1,5 @@
 use Rattle.cl_pp.proofs.Arriving.{looks_is}
+use Rattle.cl_pp.proofs.Shelving.{found_known}
 use Rattle.cl_pp.proofs.reach.look.Goals as goal
 
 pub returns-clause-done : goal.returns-clause-done
@@ -7,3 +8,8 @@ returns-clause-done g c =
     let asked = g.V.HeaderView.asked in
     λ w s. looks_is w c.args.entry.now c.args.config.now (known c.args.view.now) c.args.target.now c.in_ok-folder.folder c.text.result.now c.args.made.now.done c.arrive.new.made.done c.find_header.new.deps
     (asked c.args.view.now) (asked c.find_header.new.view) c.in_ok-resolved.resolved c.in_ok-found.found s c.in_ok-folder.ensures c.text.ensures c.in_ok-resolved.ensures.ok c.in_ok-found.ensures.done
+
+pub returns-clause-known : goal.returns-clause-known
+returns-clause-known g c =
+    let searched = c.in_ok-resolved.ensures.ok in
+    found_known (g.V.HeaderView.known c.args.view.now) _ searched.asked c.in_ok-resolved.resolved c.args.target.now _ c.arrive.new.made.done c.in_ok-found.found searched.resolves c.in_ok-found.ensures.done
