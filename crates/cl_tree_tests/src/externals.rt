@@ -96,7 +96,7 @@ fn trees(rt: HostRuntime) -> Result<(), Fail> {
 /// Two external declarations, the number of the token with which the second begins, and a part of its tree.
 struct Pair {
     text: &'static [u8],
-    from: usize,
+    from: u32,
     part: &'static str,
 }
 

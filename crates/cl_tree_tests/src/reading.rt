@@ -52,8 +52,13 @@ pub fn external(alloc: Global, text: &[u8]) -> Mem<String> {
 }
 
 /// The tree of what stands from one token to the end of a text, where what stands before it was read as an external declaration.
-pub fn after_external(alloc: Global, text: &[u8], from: usize) -> Mem<String> {
+pub fn after_external(alloc: Global, text: &[u8], from: u32) -> Mem<String> {
     let tokens = tokens_of(alloc, text)?;
+    let count = tokens.len();
+    let split = from as usize;
+    if split > count {
+        return Ok(format!(in alloc; "too short")?);
+    }
     let names = two_names(alloc)?;
     let pairs = brackets(alloc, tokens.as_slice())?;
     let pairs = pairs.as_slice();
@@ -63,8 +68,11 @@ pub fn after_external(alloc: Global, text: &[u8], from: usize) -> Mem<String> {
         tokens.as_slice(),
         pairs,
         &names,
-        from,
+        split,
     )?;
+    if first.len() > count {
+        return Ok(format!(in alloc; "too many")?);
+    }
     let Some(reading) = external_at(alloc, first.as_slice(), 0)? else {
         return Ok(format!(in alloc; "not read")?);
     };
@@ -74,8 +82,8 @@ pub fn after_external(alloc: Global, text: &[u8], from: usize) -> Mem<String> {
         first.as_slice(),
         reading.scope.changes.as_slice(),
     )?;
-    let all = lexemes_to(alloc, first, tokens.as_slice(), pairs, &names, tokens.len())?;
-    let tree = external_at(alloc, all.as_slice(), from as u32)?;
+    let all = lexemes_to(alloc, first, tokens.as_slice(), pairs, &names, count)?;
+    let tree = external_at(alloc, all.as_slice(), from)?;
     written(alloc, tokens.as_slice(), tree.map(|reading| reading.tree))
 }
 
