@@ -1,8 +1,6 @@
 //! A text over a base that gives a name its macro.
 
-use cl_base::{
-    Config, Define, EmptyBase, Lent, List, Macro, MacroNo, Mem, Memory, Name, Path, Span,
-};
+use cl_base::{Config, Lent, List, Macro, MacroNo, Mem, Memory, Name, Path, Span};
 use cl_define::read_define;
 use cl_headers::{HeaderMap, MapView};
 use cl_lex::lex;
@@ -12,6 +10,7 @@ use std::alloc::Global;
 use std::test::Fail;
 
 /// A base that gives one name this macro, by the event of this number.
+#[derive(Drop)]
 struct OneMacro {
     mac: Macro,
     no: MacroNo,
