@@ -227,7 +227,7 @@ pub same_class_is : (x y : Class) → class_number x ≡ class_number y → x �
 same_class_is x y e = some_class (sym (numbered_class x) ∙ ap (λ (n : ℕ). slice_get all_classs n) e ∙ numbered_class y)
 
 abbrev pub all_goals : List Nonterminal
-all_goals = nt.PrimaryExpression ∷ nt.GenericSelection ∷ nt.GenericAssocList ∷ nt.GenericAssociation ∷ nt.PostfixExpression ∷ nt.ArgumentExpressionList ∷ nt.UnaryExpression ∷ nt.UnaryOperator ∷ nt.CastExpression ∷ nt.MultiplicativeExpression ∷ nt.AdditiveExpression ∷ nt.ShiftExpression ∷ nt.RelationalExpression ∷ nt.EqualityExpression ∷ nt.AndExpression ∷ nt.ExclusiveOrExpression ∷ nt.InclusiveOrExpression ∷ nt.LogicalAndExpression ∷ nt.LogicalOrExpression ∷ nt.ConditionalExpression ∷ nt.AssignmentExpression ∷ nt.AssignmentOperator ∷ nt.Expression ∷ nt.ConstantExpression ∷ nt.Declaration ∷ nt.DeclarationSpecifiers ∷ nt.InitDeclaratorList ∷ nt.InitDeclarator ∷ nt.StorageClassSpecifier ∷ nt.TypeSpecifier ∷ nt.StructOrUnionSpecifier ∷ nt.StructOrUnion ∷ nt.StructDeclarationList ∷ nt.StructDeclaration ∷ nt.SpecifierQualifierList ∷ nt.StructDeclaratorList ∷ nt.StructDeclarator ∷ nt.EnumSpecifier ∷ nt.EnumeratorList ∷ nt.Enumerator ∷ nt.AtomicTypeSpecifier ∷ nt.TypeQualifier ∷ nt.FunctionSpecifier ∷ nt.AlignmentSpecifier ∷ nt.Declarator ∷ nt.DirectDeclarator ∷ nt.Pointer ∷ nt.TypeQualifierList ∷ nt.ParameterTypeList ∷ nt.ParameterList ∷ nt.ParameterDeclaration ∷ nt.IdentifierList ∷ nt.TypeName ∷ nt.AbstractDeclarator ∷ nt.DirectAbstractDeclarator ∷ nt.TypedefName ∷ nt.Initializer ∷ nt.InitializerList ∷ nt.Designation ∷ nt.DesignatorList ∷ nt.Designator ∷ nt.StaticAssertDeclaration ∷ nt.FunctionDefinition ∷ nt.OtherSpecifier ∷ nt.LaterTypeSpecifier ∷ nt.LaterSpecifier ∷ nt.LaterQualifier ∷ nt.ParameterDeclarator ∷ nt.DirectParameterDeclarator ∷ nt.AnyDeclarator ∷ nt.DirectAnyDeclarator ∷ []
+all_goals = nt.PrimaryExpression ∷ nt.GenericSelection ∷ nt.GenericAssocList ∷ nt.GenericAssociation ∷ nt.PostfixExpression ∷ nt.ArgumentExpressionList ∷ nt.UnaryExpression ∷ nt.UnaryOperator ∷ nt.CastExpression ∷ nt.MultiplicativeExpression ∷ nt.AdditiveExpression ∷ nt.ShiftExpression ∷ nt.RelationalExpression ∷ nt.EqualityExpression ∷ nt.AndExpression ∷ nt.ExclusiveOrExpression ∷ nt.InclusiveOrExpression ∷ nt.LogicalAndExpression ∷ nt.LogicalOrExpression ∷ nt.ConditionalExpression ∷ nt.AssignmentExpression ∷ nt.AssignmentOperator ∷ nt.Expression ∷ nt.ConstantExpression ∷ nt.Declaration ∷ nt.DeclarationSpecifiers ∷ nt.InitDeclaratorList ∷ nt.InitDeclarator ∷ nt.StorageClassSpecifier ∷ nt.TypeSpecifier ∷ nt.StructOrUnionSpecifier ∷ nt.StructOrUnion ∷ nt.StructDeclarationList ∷ nt.StructDeclaration ∷ nt.SpecifierQualifierList ∷ nt.StructDeclaratorList ∷ nt.StructDeclarator ∷ nt.EnumSpecifier ∷ nt.EnumeratorList ∷ nt.Enumerator ∷ nt.AtomicTypeSpecifier ∷ nt.TypeQualifier ∷ nt.FunctionSpecifier ∷ nt.AlignmentSpecifier ∷ nt.Declarator ∷ nt.DirectDeclarator ∷ nt.Pointer ∷ nt.TypeQualifierList ∷ nt.ParameterTypeList ∷ nt.ParameterList ∷ nt.ParameterDeclaration ∷ nt.IdentifierList ∷ nt.TypeName ∷ nt.AbstractDeclarator ∷ nt.DirectAbstractDeclarator ∷ nt.TypedefName ∷ nt.Initializer ∷ nt.InitializerList ∷ nt.Designation ∷ nt.DesignatorList ∷ nt.Designator ∷ nt.StaticAssertDeclaration ∷ nt.Statement ∷ nt.LabeledStatement ∷ nt.CompoundStatement ∷ nt.BlockItemList ∷ nt.BlockItem ∷ nt.ExpressionStatement ∷ nt.SelectionStatement ∷ nt.IterationStatement ∷ nt.JumpStatement ∷ nt.FunctionDefinition ∷ nt.OtherSpecifier ∷ nt.LaterTypeSpecifier ∷ nt.LaterSpecifier ∷ nt.LaterQualifier ∷ nt.ParameterDeclarator ∷ nt.DirectParameterDeclarator ∷ nt.AnyDeclarator ∷ nt.DirectAnyDeclarator ∷ nt.UnlabelledExpression ∷ nt.PlainExpression ∷ nt.BlockStatement ∷ nt.BlockExpressionStatement ∷ nt.BlockDeclaration ∷ nt.BlockSpecifiers ∷ []
 
 pub numbered_goal : (x : Nonterminal) → slice_get all_goals (number x) ≡ Some x
 numbered_goal nt.PrimaryExpression = refl
@@ -292,6 +292,15 @@ numbered_goal nt.Designation = refl
 numbered_goal nt.DesignatorList = refl
 numbered_goal nt.Designator = refl
 numbered_goal nt.StaticAssertDeclaration = refl
+numbered_goal nt.Statement = refl
+numbered_goal nt.LabeledStatement = refl
+numbered_goal nt.CompoundStatement = refl
+numbered_goal nt.BlockItemList = refl
+numbered_goal nt.BlockItem = refl
+numbered_goal nt.ExpressionStatement = refl
+numbered_goal nt.SelectionStatement = refl
+numbered_goal nt.IterationStatement = refl
+numbered_goal nt.JumpStatement = refl
 numbered_goal nt.FunctionDefinition = refl
 numbered_goal nt.OtherSpecifier = refl
 numbered_goal nt.LaterTypeSpecifier = refl
@@ -301,6 +310,12 @@ numbered_goal nt.ParameterDeclarator = refl
 numbered_goal nt.DirectParameterDeclarator = refl
 numbered_goal nt.AnyDeclarator = refl
 numbered_goal nt.DirectAnyDeclarator = refl
+numbered_goal nt.UnlabelledExpression = refl
+numbered_goal nt.PlainExpression = refl
+numbered_goal nt.BlockStatement = refl
+numbered_goal nt.BlockExpressionStatement = refl
+numbered_goal nt.BlockDeclaration = refl
+numbered_goal nt.BlockSpecifiers = refl
 
 some_goal : {x y : Nonterminal} → Some x ≡ Some y → x ≡ y
 some_goal e = cc
