@@ -541,13 +541,14 @@ use Rattle.cl_expr.specs.code.Table.{number}
 
 '''
 for one, ty, m, xs in (('class', 'Class', 'cl', CLASSES), ('goal', 'Nonterminal', 'nt', GOALS), ('act', 'Act', 'ac', ACTS), ('rule', 'Rule', 'ru', ['Token', 'Hole', 'Bad'] + RULES_TREE)):
-    L += f'abbrev pub all_{one}s : List {ty}\nall_{one}s = {" ∷ ".join([m + "." + x for x in xs] + ["[]"])}\n\n'
+    many = 'classes' if one == 'class' else one + 's'
+    L += f'abbrev pub all_{many} : List {ty}\nall_{many} = {" ∷ ".join([m + "." + x for x in xs] + ["[]"])}\n\n'
     if one == 'goal': num = 'number'
     else:
         num = one + '_number'
         L += f'abbrev pub {num} : {ty} → ℕ\n' + ''.join(f'{num} {m}.{x} = {i}\n' for i, x in enumerate(xs)) + '\n'
-    L += f'pub numbered_{one} : (x : {ty}) → slice_get all_{one}s ({num} x) ≡ Some x\n' + ''.join(f'numbered_{one} {m}.{x} = refl\n' for i, x in enumerate(xs)) + '\n'
+    L += f'pub numbered_{one} : (x : {ty}) → slice_get all_{many} ({num} x) ≡ Some x\n' + ''.join(f'numbered_{one} {m}.{x} = refl\n' for i, x in enumerate(xs)) + '\n'
     L += f'some_{one} : {{x y : {ty}}} → Some x ≡ Some y → x ≡ y\nsome_{one} e = cc\n\n'
-    L += f'pub same_{one}_is : (x y : {ty}) → {num} x ≡ {num} y → x ≡ y\nsame_{one}_is x y e = some_{one} (sym (numbered_{one} x) ∙ ap (λ (n : ℕ). slice_get all_{one}s n) e ∙ numbered_{one} y)\n\n'
+    L += f'pub same_{one}_is : (x y : {ty}) → {num} x ≡ {num} y → x ≡ y\nsame_{one}_is x y e = some_{one} (sym (numbered_{one} x) ∙ ap (λ (n : ℕ). slice_get all_{many} n) e ∙ numbered_{one} y)\n\n'
 w('proofs/All.antt', L.rstrip() + '\n')
 if __name__ == '__main__': print(len(flat_edges), len(P))
