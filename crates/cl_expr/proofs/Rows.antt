@@ -4,7 +4,6 @@ use Rattle.std.specs.Prelude.{Option, Some, None, slice_get, slice_range}
 use Rattle.std.specs.Option.{option_map}
 use Rattle.std.proofs.lemmas.Option.{slice_get-map}
 use Rattle.cl_tree.specs.declared.nonterminal.Nonterminal.{Nonterminal}
-use Rattle.cl_tree.specs.declared.grammar.Terminal.{Terminal}
 use Rattle.cl_expr.specs.declared.table.Row.{Row}
 use Rattle.cl_expr.specs.declared.table.GoalRow.{GoalRow}
 use Rattle.cl_expr.specs.code.Table.{Place, Goal, places, goals, place, goal, nowhere, nothing, place_of, goal_of, rows, goal_rows, first_spans, all_edges, all_kinds, all_openers, all_suffixes, all_firsts, edges, name_of, bar_of, scoped, corner, turning, is_named, kinds, openers, suffixes, firsts, shunned, number}
