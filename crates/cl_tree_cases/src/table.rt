@@ -16,6 +16,10 @@ enum Section {
     Declaration,
     /// Type names (6.7.7).
     TypeName,
+    /// Statements (6.8).
+    Statement,
+    /// Items of a block (6.8.2).
+    BlockItem,
     /// Files, with whether they end whole.
     EndsWhole,
 }
@@ -57,6 +61,8 @@ impl Table {
             Section::Expression => trees::expression(alloc, text.as_bytes(), &self.typedefs)?,
             Section::Declaration => trees::declaration(alloc, text.as_bytes(), &self.typedefs)?,
             Section::TypeName => trees::type_name(alloc, text.as_bytes(), &self.typedefs)?,
+            Section::Statement => trees::statement(alloc, text.as_bytes(), &self.typedefs)?,
+            Section::BlockItem => trees::block_item(alloc, text.as_bytes(), &self.typedefs)?,
             Section::EndsWhole => trees::whole(alloc, text.as_bytes())?,
         };
         let shown = format!(in alloc; "{text} => {found}\n")?;
@@ -77,6 +83,8 @@ fn section_of(name: &str) -> Section {
     match name {
         "[declaration]" => Section::Declaration,
         "[type name]" => Section::TypeName,
+        "[statement]" => Section::Statement,
+        "[block item]" => Section::BlockItem,
         "[ends whole]" => Section::EndsWhole,
         _ => Section::Expression,
     }
