@@ -4,10 +4,12 @@
 mod choices;
 mod conversions;
 mod laws;
+mod members;
 mod operands;
 mod operators;
 mod single;
 
+pub use members::{Access, member_of};
 pub use choices::{assignable, call, conditional, takes_count};
 pub use conversions::{arithmetic, of_basic, promote, usual};
 pub use laws::{promotions, usual_conversions};

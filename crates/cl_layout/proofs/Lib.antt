@@ -1,3 +1,4 @@
+pub mod Existence
 pub mod Filling
 pub mod Numbers
 pub mod Steps

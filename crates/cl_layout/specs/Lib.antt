@@ -1,3 +1,4 @@
 pub mod Layouts
+pub mod Ordered
 pub mod Places
 pub mod Tables

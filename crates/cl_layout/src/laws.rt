@@ -1,11 +1,22 @@
-//! What holds of each structure whose layout is known.
+//! What holds of layouts, and of each structure whose layout is known.
 
-ghost use Rattle.std.specs.Prelude.{◌≡◌, ◌*◌, ℕ, Bool, List, Some, false};
+ghost use Rattle.std.specs.Prelude.{◌≡◌, ◌*◌, ℕ, Bool, List, Option, Some, false};
 ghost use Rattle.cl_types.specs.declared.unit.Member.{Member};
 ghost use Rattle.cl_layout.specs.declared.layout.Layout.{Layout};
 ghost use Rattle.cl_layout.specs.declared.layout.Layout.TheVariants as make;
-ghost use Rattle.cl_layout.specs.Layouts.{content_layout, member_offsets};
+ghost use Rattle.cl_layout.specs.Layouts.{AreLayouts, content_layout, member_offsets};
+ghost use Rattle.cl_layout.specs.Ordered.{IsOrdered};
 ghost use Rattle.cl_layout.specs.Places.{AreInPlace, LieApart, extents};
+
+/// Where each member stands behind those that its type is made of, structures and unions have one layout at most.
+pub fn one_layout()
+    ensures { (content : ℕ → Option (List Member)) (f g : Bool → ℕ → Layout) → IsOrdered content → AreLayouts content f → AreLayouts content g → (union : Bool) (tag : ℕ) → f union tag ≡ g union tag }
+{}
+
+/// And there they have one.
+pub fn some_layouts()
+    ensures { (content : ℕ → Option (List Member)) → IsOrdered content → (layouts : Bool → ℕ → Layout) × AreLayouts content layouts }
+{}
 
 /// No two members of a structure share a bit, and each lies within it.
 pub fn members_apart()

@@ -8,7 +8,7 @@ mod tag_key;
 mod view;
 mod work;
 
-pub use laws::{members_apart, members_in_place};
+pub use laws::{members_apart, members_in_place, one_layout, some_layouts};
 pub use layout::Layout;
 pub use room::Room;
 pub use view::Members;

@@ -20,4 +20,7 @@ pub use qualifying::{qualified, qualifiers_of};
 pub use shared::Shared;
 pub use sizes::{MOST_NODES, is_small, room_after};
 pub use types::{Basic, CType, DeclNo, Length, Params, TagWord, basic_of};
-pub use unit::{Decl, DeclKind, Dep, Entity, Linkage, Member, ScopeKind, Space, Unit, Use, Used};
+pub use unit::{
+    Decl, DeclKind, Dep, Entity, Import, IncludeLine, Linkage, Member, ScopeKind, Space, Unit,
+    UnitView, Use, Used,
+};
