@@ -17,11 +17,11 @@ abbrev Content : Type 0
 Content = ℕ → Option (List Member)
 
 -- the least number that is above those of all members
-end_of : List Member → ℕ
+abbrev end_of : List Member → ℕ
 end_of [] = 0
 end_of (m ∷ ms) = max (suc m.decl.0) (end_of ms)
 
-end_in : Option (List Member) → ℕ
+abbrev end_in : Option (List Member) → ℕ
 end_in None = 0
 end_in (Some ms) = end_of ms
 

@@ -32,6 +32,9 @@ enum Section {
     Calls,
     /// An operand of `sizeof` (6.5.3.4).
     Sizes,
+    /// An operator of member access with its left operand and a member, with the type of the access, whether it is an lvalue, and
+    /// whether it is a bit-field (6.5.2.3).
+    Members,
     /// Type specifiers and typedef names, with their type (6.7.2p2).
     Words,
     /// A parameter and qualifiers, with its type (6.7.6.3p7, p8).
@@ -103,6 +106,7 @@ fn found(alloc: Global, section: Section, first: &str, second: &str) -> Mem<Stri
         Section::Casts => conversions::cast_of(alloc, first, second),
         Section::Calls => conversions::call_of(alloc, first),
         Section::Sizes => conversions::size(alloc, first),
+        Section::Members => conversions::part_of(alloc, first, second),
         Section::Words => specifiers::base_of(alloc, first, second),
         Section::Adjusted => specifiers::parameter(alloc, first, second),
         Section::Qualified => specifiers::qualified_of(alloc, first, second),
@@ -129,6 +133,7 @@ fn section_of(name: &str) -> Section {
         "[casts]" => Section::Casts,
         "[calls]" => Section::Calls,
         "[sizeof]" => Section::Sizes,
+        "[members]" => Section::Members,
         "[words]" => Section::Words,
         "[adjusted]" => Section::Adjusted,
         "[qualified]" => Section::Qualified,
