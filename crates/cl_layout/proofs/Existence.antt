@@ -73,7 +73,7 @@ one_layout content f g ordered are also union tag = same_below content f g order
 -- ---- there is one
 
 -- layouts in so many rounds, each over those of the round before
-laid : Content → ℕ → Layouts
+abbrev laid : Content → ℕ → Layouts
 laid content zero union tag = Unknown
 laid content (suc n) union tag = content_layout (laid content n) union (content tag)
 
@@ -84,7 +84,7 @@ laid_agree content ordered (suc n) (suc m) bound h k union tag below =
     content_agrees content (laid content n) (laid content m) (end_in (content tag)) union tag (content tag) refl ordered (omega arith)
     (laid_agree content ordered n m (end_in (content tag)) (omega arith) (omega arith))
 
-whole : Content → Layouts
+abbrev whole : Content → Layouts
 whole content union tag = laid content (suc (end_in (content tag))) union tag
 
 whole_agrees : (content : Content) → IsOrdered content → (n : ℕ) → AgreeBelow content n (laid content n) (whole content)
