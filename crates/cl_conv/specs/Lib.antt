@@ -2,5 +2,3 @@ pub mod MemberOf
 pub mod Operands
 pub mod Operators
 pub mod Unary
-pub mod Usual
-pub mod code

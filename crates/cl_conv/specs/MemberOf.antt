@@ -7,7 +7,7 @@ use Rattle.cl_types.specs.Compatible.{is_error}
 use Rattle.cl_types.specs.Qualify.{qualified, qualifiers_of}
 use Rattle.cl_conv.specs.declared.members.Access.{Access}
 use Rattle.cl_conv.specs.declared.members.Access.TheVariants.{Dot, Arrow}
-use Rattle.cl_conv.specs.declared.operands.Operand.{Operand}
+use Rattle.cl_types.specs.declared.expressions.Operand.{Operand}
 use Rattle.cl_conv.specs.Operands.{is_record, target}
 use Rattle.cl_conv.specs.Operators.{value}
 

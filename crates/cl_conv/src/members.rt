@@ -4,10 +4,10 @@ ghost use Rattle.std.specs.Prelude.{◌≡◌, IfOk};
 ghost use Rattle.std.specs.Option.{option_copied};
 ghost use Rattle.cl_conv.specs.MemberOf.{accessed, has_width, is_arrow, member_of, part, record_in};
 
-use crate::operands::{Operand, is_record, target};
+use crate::operands::{is_record, target};
 use crate::operators::value;
 use cl_base::Mem;
-use cl_types::{CType, Member, is_error, qualified, qualifiers_of};
+use cl_types::{CType, Member, Operand, is_error, qualified, qualifiers_of};
 use std::alloc::Global;
 
 /// The operators of member access: `.` and `->`.

@@ -3,10 +3,12 @@
 use crate::chains::{base, operand, said, yes_or_no};
 use cl_base::Mem;
 use cl_conv::{
-    Access, BinaryOp, Operand, UnaryOp, assignable, binary, call, cast, conditional, member_of,
-    promote, size_of, takes_count, unary, usual,
+use cl_conv::{
+    Access, assignable, binary, call, cast, conditional, member_of, promote, size_of, takes_count,
+    unary, usual,
 };
-use cl_types::{CType, DeclNo, Member, basic_of, print};
+use cl_print::print;
+use cl_types::{BinaryOp, CType, DeclNo, Member, Operand, UnaryOp, basic_of};
 use std::alloc::Global;
 
 /// The letters of the arithmetic types, in the order of their list in N1570 6.2.5.

@@ -6,7 +6,8 @@ use cl_conv::of_basic;
 use cl_literals::{
     NumberConstant, char_value, elements, faults, literal_prefix, number, prefix_of,
 };
-use cl_types::{Basic, print};
+use cl_print::print;
+use cl_types::Basic;
 use std::alloc::Global;
 
 fn name_of(alloc: Global, basic: Basic) -> Mem<String> {
