@@ -3,7 +3,6 @@
 use crate::chains::{base, operand, said, yes_or_no};
 use cl_base::Mem;
 use cl_conv::{
-use cl_conv::{
     Access, assignable, binary, call, cast, conditional, member_of, promote, size_of, takes_count,
     unary, usual,
 };
