@@ -1,4 +1,6 @@
+pub mod Constants
 pub mod Layouts
 pub mod Ordered
 pub mod Places
 pub mod Tables
+pub mod Worths

@@ -77,9 +77,9 @@ is_not _ = false
 abbrev pub prefix_known : Operator → Basic → Number → Worth
 prefix_known o k n = if is_not o then narrowed k (apply_prefix o n) else narrowed k (apply_prefix o (converted k n))
 
-abbrev pub prefix : Operator → Basic → Worth → Worth
-prefix o k (Known n) = prefix_known o k n
-prefix o k w = w
+abbrev pub prefixed : Operator → Basic → Worth → Worth
+prefixed o k (Known n) = prefix_known o k n
+prefixed o k w = w
 
 -- ---- operators between two operands (6.5.5 to 6.5.14)
 
@@ -162,14 +162,14 @@ after_unknown o k (Known y) = if spoils o k y then Fails else Unknown
 after_unknown o k w = w
 
 -- both operands are evaluated
-abbrev pub infix : Operator → Basic → Basic → Worth → Worth → Worth
-infix o k own Fails right = Fails
-infix o k own Unknown right = after_unknown o k right
-infix o k own (Known x) right = after_known o k own x right
+abbrev pub infixed : Operator → Basic → Basic → Worth → Worth → Worth
+infixed o k own Fails right = Fails
+infixed o k own Unknown right = after_unknown o k right
+infixed o k own (Known x) right = after_known o k own x right
 
 abbrev pub infix_at : Operator → Option Basic → Basic → Worth → Worth → Worth
 infix_at o None own left right = Unknown
-infix_at o (Some k) own left right = infix o k own left right
+infix_at o (Some k) own left right = infixed o k own left right
 
 -- ---- what isn't evaluated doesn't count: what follows the first operand of `&&`, `||` and `?:` (6.5.13p4, 6.5.14p4, 6.5.15p4)
 

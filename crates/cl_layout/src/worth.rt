@@ -3,7 +3,7 @@
 ghost use Rattle.std.specs.Prelude.{◌≡◌, Some};
 ghost use Rattle.cl_const.specs.declared.number.Number.TheVariants.{Unsigned};
 ghost use Rattle.cl_types.specs.declared.types.Basic.TheVariants as basic;
-ghost use Rattle.cl_layout.specs.Worths.{after_known, after_unknown, binary_worth, chosen, common_kind, converted, infix, infix_at, infix_operator, integer_kind, is_comparison, is_division, is_not, is_remainder, is_shift, is_unsigned, logical_and, logical_or, narrowed, operand_kind, prefix, prefix_known, prefix_operator, remaining, right_operand, select, spoils, truth_of, worked, worth_as};
+ghost use Rattle.cl_layout.specs.Worths.{after_known, after_unknown, binary_worth, chosen, common_kind, converted, infixed, infix_at, infix_operator, integer_kind, is_comparison, is_division, is_not, is_remainder, is_shift, is_unsigned, logical_and, logical_or, narrowed, operand_kind, prefixed, prefix_known, prefix_operator, remaining, right_operand, select, spoils, truth_of, worked, worth_as};
 
 use crate::layout::bytes;
 use cl_const::{Number, Operator, apply, apply_prefix};
@@ -23,13 +23,7 @@ pub fn integer_kind(t: &CType) -> Option<Basic>
     ensures { result ≡ integer_kind t.now }
 {
     match arithmetic(t) {
-        Some(kind) => {
-            if kind.place() <= 11 {
-                Some(kind)
-            } else {
-                None
-            }
-        }
+        Some(kind) => { if kind.place() <= 11 { Some(kind) } else { None } }
         None => None,
     }
 }
@@ -160,8 +154,8 @@ fn prefix_known(op: Operator, kind: Basic, number: Number) -> Worth
 }
 
 /// An operator over one operand (6.5.3.3), whose result has this type.
-pub fn prefix(op: Operator, kind: Basic, worth: Worth) -> Worth
-    ensures { result ≡ prefix op kind worth }
+pub fn prefixed(op: Operator, kind: Basic, worth: Worth) -> Worth
+    ensures { result ≡ prefixed op kind worth }
 {
     match worth {
         Worth::Known(number) => prefix_known(op, kind, number),
@@ -337,8 +331,8 @@ fn after_unknown(op: Operator, kind: Basic, right: Worth) -> Worth
     }
 }
 
-fn infix(op: Operator, kind: Basic, own: Basic, left: Worth, right: Worth) -> Worth
-    ensures { result ≡ infix op kind own left right }
+fn infixed(op: Operator, kind: Basic, own: Basic, left: Worth, right: Worth) -> Worth
+    ensures { result ≡ infixed op kind own left right }
 {
     match left {
         Worth::Fails => Worth::Fails,
@@ -351,7 +345,7 @@ fn infix_at(op: Operator, kind: Option<Basic>, own: Basic, left: Worth, right: W
     ensures { result ≡ infix_at op kind own left right }
 {
     match kind {
-        Some(kind) => infix(op, kind, own, left, right),
+        Some(kind) => infixed(op, kind, own, left, right),
         None => Worth::Unknown,
     }
 }
@@ -424,6 +418,12 @@ pub fn binary_worth(
     match op {
         Operator::And => logical_and(left, right),
         Operator::Or => logical_or(left, right),
-        _ => infix_at(op, operand_kind(op, kinds.0, kinds.1, own), own, left, right),
+        _ => infix_at(
+            op,
+            operand_kind(op, kinds.0, kinds.1, own),
+            own,
+            left,
+            right,
+        ),
     }
 }

@@ -13,7 +13,7 @@ use std::alloc::Global;
 /// The letters of the arithmetic types, in the order of their list in N1570 6.2.5.
 const LETTERS: &str = "BcaCsSiIlLqQfdD";
 
-fn binary_op(word: &str) -> BinaryOp {
+pub(crate) fn binary_op(word: &str) -> BinaryOp {
     match word {
         "*" => BinaryOp::Multiply,
         "/" => BinaryOp::Divide,
@@ -23,11 +23,14 @@ fn binary_op(word: &str) -> BinaryOp {
         "<<" => BinaryOp::ShiftLeft,
         ">>" => BinaryOp::ShiftRight,
         "<" => BinaryOp::Less,
+        ">" => BinaryOp::Greater,
+        "<=" => BinaryOp::LessEqual,
         ">=" => BinaryOp::GreaterEqual,
         "==" => BinaryOp::Equal,
         "!=" => BinaryOp::NotEqual,
         "&" => BinaryOp::BitAnd,
         "^" => BinaryOp::BitXor,
+        "|" => BinaryOp::BitOr,
         "&&" => BinaryOp::LogicalAnd,
         "||" => BinaryOp::LogicalOr,
         "*=" => BinaryOp::AssignMultiply,
@@ -36,20 +39,22 @@ fn binary_op(word: &str) -> BinaryOp {
         "%=" => BinaryOp::AssignRemainder,
         "<<=" => BinaryOp::AssignShiftLeft,
         "|=" => BinaryOp::AssignBitOr,
+        "=" => BinaryOp::Assign,
         "[]" => BinaryOp::Index,
         _ => BinaryOp::Comma,
     }
 }
 
-fn unary_op(word: &str) -> UnaryOp {
+pub(crate) fn unary_op(word: &str) -> UnaryOp {
     match word {
         "_++" => UnaryOp::PostIncrement,
         "--" => UnaryOp::PreDecrement,
-        "&" => UnaryOp::AddressOf,
-        "*" => UnaryOp::Dereference,
-        "+" => UnaryOp::Plus,
-        "-" => UnaryOp::Minus,
-        "~" => UnaryOp::Complement,
+        "++_" => UnaryOp::PreIncrement,
+        "&" | "&_" => UnaryOp::AddressOf,
+        "*" | "*_" => UnaryOp::Dereference,
+        "+" | "+_" => UnaryOp::Plus,
+        "-" | "-_" => UnaryOp::Minus,
+        "~" | "~_" => UnaryOp::Complement,
         _ => UnaryOp::Not,
     }
 }

@@ -3,6 +3,7 @@
 #![tactic(auto)]
 
 mod chains;
+mod constants;
 mod conversions;
 mod escape;
 mod layouts;

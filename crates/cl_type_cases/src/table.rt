@@ -1,7 +1,7 @@
 //! A table of cases. A line with ` => ` is a case: what is given, and behind the arrow what it comes to. Of the other lines
 //! `[section]` begins a section, and all else says nothing. What is given may have two parts, with ` | ` between them.
 
-use crate::{conversions, layouts, literals, specifiers, types};
+use crate::{constants, conversions, layouts, literals, specifiers, types};
 use cl_base::Mem;
 use std::alloc::Global;
 
@@ -55,6 +55,8 @@ enum Section {
     Faults,
     /// Structures and unions, with where the members of the last one begin, its size and its alignment (6.7.2.1).
     Layouts,
+    /// An expression, and the same with each operator behind its operands, with its value as a constant one (6.6p6).
+    Constants,
 }
 
 /// What stands between the lines of a table.
@@ -117,6 +119,7 @@ fn found(alloc: Global, section: Section, first: &str, second: &str) -> Mem<Stri
         Section::Strings => literals::string_of(alloc, first),
         Section::Faults => literals::faults_of(alloc, first),
         Section::Layouts => layouts::layout_of(alloc, first),
+        Section::Constants => constants::value_of(alloc, second),
     }
 }
 
@@ -144,6 +147,7 @@ fn section_of(name: &str) -> Section {
         "[strings]" => Section::Strings,
         "[faults]" => Section::Faults,
         "[layouts]" => Section::Layouts,
+        "[constants]" => Section::Constants,
         _ => Section::Printed,
     }
 }

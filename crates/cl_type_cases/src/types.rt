@@ -2,8 +2,8 @@
 
 use crate::chains::{chain, yes_or_no};
 use cl_base::Mem;
-use cl_specifiers::pointer_to;
 use cl_print::print;
+use cl_specifiers::pointer_to;
 use cl_types::{CType, compatible, composite};
 use std::alloc::Global;
 
