@@ -9,10 +9,10 @@ mod operands;
 mod operators;
 mod single;
 
-pub use members::{Access, member_of};
 pub use choices::{assignable, call, conditional, takes_count};
 pub use conversions::{of_basic, promote, usual};
 pub use laws::{promotions, usual_conversions};
+pub use members::{Access, member_of};
 pub use operands::{is_arithmetic, is_integer, is_pointer, is_scalar, target, value_type};
 pub use operators::{Outcome, assigns, binary, designated, is_place, value};
 pub use single::{cast, is_pointer_type, pointed, size_of, unary};

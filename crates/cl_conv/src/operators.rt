@@ -10,8 +10,8 @@ ghost use Rattle.cl_conv.specs.Operators.{Operands, BothArithmetic, BothInteger,
 
 use crate::conversions::{promote, usual};
 use crate::operands::{
-    is_arithmetic, is_array, is_const, is_function, is_integer, is_object_pointer,
-    is_pointer, is_scalar, object_and_void, same_pointers, target, value_type,
+    is_arithmetic, is_array, is_const, is_function, is_integer, is_object_pointer, is_pointer,
+    is_scalar, object_and_void, same_pointers, target, value_type,
 };
 use cl_base::{Duplicate, Mem};
 use cl_types::{BinaryOp, CType, Operand, is_error};

@@ -9,8 +9,8 @@ ghost use Rattle.cl_conv.specs.Operands.{is_floating_type, is_pointer, is_scalar
 
 use crate::conversions::promote;
 use crate::operands::{
-    is_arithmetic, is_function, is_integer, is_object_pointer, is_pointer, is_scalar,
-    is_void, value_type,
+    is_arithmetic, is_function, is_integer, is_object_pointer, is_pointer, is_scalar, is_void,
+    value_type,
 };
 use crate::operators::{designated, is_place, value};
 use cl_base::{Duplicate, Mem};

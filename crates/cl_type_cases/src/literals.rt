@@ -1,7 +1,7 @@
 //! Constants and string literals as tokens, and their faults.
 
-use crate::escape::unescaped;
 use cl_base::{Kind, List, Mem, Name, PpToken, Span};
+use cl_cases::unescaped;
 use cl_conv::of_basic;
 use cl_literals::{
     NumberConstant, char_value, elements, faults, literal_prefix, number, prefix_of,

@@ -5,7 +5,6 @@
 mod chains;
 mod constants;
 mod conversions;
-mod escape;
 mod layouts;
 mod literals;
 mod specifiers;
