@@ -150,7 +150,7 @@ worth_by (typed.Chars v) k l parts = leaf_worth k v
 worth_by (typed.Named n v) k l parts = leaf_worth k v
 worth_by (typed.SizeOf t) k l parts = size_worth k l
 worth_by (typed.AlignOf t) k l parts = align_worth k l
-worth_by (typed.Generic n) k l parts = worth_at (slice_get parts n)
+worth_by (typed.Generic n) k l parts = worth_as k (worth_at (slice_get parts n))
 worth_by op k l parts = over_parts op k parts
 
 abbrev pub worth_in : Option Basic → Typed → Layout → List Reading → Worth

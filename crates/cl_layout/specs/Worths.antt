@@ -46,9 +46,9 @@ converted basic.Short n = Signed (cast_signed w16 (as_unsigned n % 2 ^ 16))
 converted basic.UShort n = Unsigned (as_unsigned n % 2 ^ 16)
 converted basic.Int n = Signed (cast_signed w32 (as_unsigned n % 2 ^ 32))
 converted basic.UInt n = Unsigned (as_unsigned n % 2 ^ 32)
-converted basic.Long n = Signed (cast_signed w64 (as_unsigned n))
-converted basic.LLong n = Signed (cast_signed w64 (as_unsigned n))
-converted _ n = Unsigned (as_unsigned n)
+converted basic.Long n = Signed (cast_signed w64 (as_unsigned n % 2 ^ 64))
+converted basic.LLong n = Signed (cast_signed w64 (as_unsigned n % 2 ^ 64))
+converted _ n = Unsigned (as_unsigned n % 2 ^ 64)
 
 -- a result in its type: an unsigned one modulo, and a signed one where its type has it (6.2.5p9, 6.5p5)
 abbrev pub narrowed : Basic → Option Number → Worth
@@ -150,7 +150,7 @@ remaining _ w = w
 -- two values that are known: a remainder has none where the quotient has none (6.5.5p6)
 abbrev pub worked : Operator → Basic → Basic → Number → Number → Worth
 worked o k own x y =
-    if is_remainder o then remaining (narrowed k (apply op.Divide (converted k x) (converted k y))) (narrowed k (apply op.Remainder (converted k x) (converted k y)))
+    if is_remainder o then remaining (narrowed k (apply op.Divide (converted k x) (converted k y))) (narrowed own (apply op.Remainder (converted k x) (converted k y)))
     else narrowed own (apply o (converted k x) (right_operand o k y))
 
 abbrev pub after_known : Operator → Basic → Basic → Number → Worth → Worth

@@ -12,7 +12,7 @@ mod work;
 mod worth;
 
 pub use constants::{Value, eval_const};
-pub use laws::{members_apart, members_in_place, one_layout, some_layouts};
+pub use laws::{known_in_range, members_apart, members_in_place, one_layout, some_layouts};
 pub use layout::Layout;
 pub use reading::Reading;
 pub use room::Room;

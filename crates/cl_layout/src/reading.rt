@@ -262,7 +262,7 @@ fn worth_by(op: &Typed, kind: Basic, layout: Layout, parts: &[Reading]) -> Worth
         Typed::Named(_, value) => leaf_worth(kind, *value),
         Typed::SizeOf(_) => size_worth(kind, layout),
         Typed::AlignOf(_) => align_worth(kind, layout),
-        Typed::Generic(number) => worth_at(parts.get(*number as usize).copied()),
+        Typed::Generic(number) => worth_as(kind, worth_at(parts.get(*number as usize).copied())),
         other => over_parts(other, kind, parts),
     }
 }

@@ -44,6 +44,7 @@ fn is_unsigned(kind: Basic) -> bool
 
 /// A value in another type (6.3.1.2, 6.3.1.3): in `_Bool` 0 or 1, else the value of that type that is equal modulo 2 to the power of
 /// its width.
+#[tactic(auto, using(crate::proofs::Numbers::whole_bits))]
 pub fn converted(kind: Basic, number: Number) -> Number
     ensures { result ≡ converted kind number }
 {
@@ -294,7 +295,7 @@ fn worked(op: Operator, kind: Basic, own: Basic, left: Number, right: Number) ->
     if is_remainder(op) {
         let y = converted(kind, right);
         let quotient = narrowed(kind, apply(Operator::Divide, x, y));
-        let remainder = narrowed(kind, apply(Operator::Remainder, x, y));
+        let remainder = narrowed(own, apply(Operator::Remainder, x, y));
         remaining(quotient, remainder)
     } else {
         narrowed(own, apply(op, x, right_operand(op, kind, right)))
