@@ -1,14 +1,13 @@
 -- The value of a constant expression is one of its type.
-use Rattle.std.proofs.Common.{◌≡◌, ◌<◌, ◌^◌, ◌&&◌, ◌||◌, ◌==◌, ℕ, ℤ, pos, negsuc, Bool, true, false, if◌then◌else◌, List, [], ◌∷◌, map, Option, Some, None, refl, sym, ap, subst, ◌∙◌, arith, rules}
+use Rattle.std.proofs.Common.{◌≡◌, ◌<◌, ◌^◌, ◌||◌, ◌==◌, ℕ, ℤ, pos, Bool, true, false, if◌then◌else◌, List, [], ◌∷◌, map, Option, Some, None, refl, sym, ap, subst, ◌∙◌, arith}
 use Rattle.std.specs.Prelude.{◌%◌, slice_get}
-use Rattle.std.specs.Int.{cast_signed, w8, w16, w32, w64}
-use Rattle.std.specs.Int.RustNames.{FitsSigned}
+use Rattle.std.specs.Int.{w8, w16, w32, w64}
 use Rattle.std.proofs.Math.Facts.{Fits-of_lt}
 use Rattle.std.proofs.Math.Facts.{sfits_to_z}
 use Rattle.std.proofs.Math.Nat.{mod-lt}
 use Rattle.std.proofs.lemmas.Int.{fits_signed_from_abs}
 use Rattle.cl_const.specs.declared.number.Number.{Number}
-use Rattle.cl_const.specs.declared.number.Number.TheVariants.{Signed, Unsigned}
+use Rattle.cl_const.specs.declared.number.Number.TheVariants.{Unsigned}
 use Rattle.cl_const.specs.declared.operators.Operator.{Operator}
 use Rattle.cl_const.specs.declared.operators.Operator.TheVariants as op
 use Rattle.cl_const.specs.Numbers.{as_unsigned, is_true, truth}
@@ -20,16 +19,15 @@ use Rattle.cl_types.specs.declared.expressions.TypedExpr.TheFolds.{fold_out-Type
 use Rattle.cl_types.specs.declared.expressions.TypedExpr.TheViews.{out-TypedExpr}
 use Rattle.cl_types.specs.declared.types.Basic.{Basic}
 use Rattle.cl_types.specs.declared.types.Basic.TheVariants as basic
-use Rattle.cl_layout.specs.declared.constants.Value.{Value}
 use Rattle.cl_layout.specs.declared.constants.Value.TheVariants as value
 use Rattle.cl_layout.specs.declared.layout.Layout.{Layout}
 use Rattle.cl_layout.specs.declared.layout.Layout.TheVariants as layout_of
 use Rattle.cl_layout.specs.declared.reading.Reading.{Reading}
 use Rattle.cl_layout.specs.declared.worth.Worth.{Worth}
 use Rattle.cl_layout.specs.declared.worth.Worth.TheVariants.{Fails, Unknown, Known}
-use Rattle.cl_layout.specs.Constants.{binary_at, cast_worth, constant, integer_of, is_refused, leaf_worth, number_in, number_worth, over_one, over_parts, over_three, over_two, prefix_at, read, reading, reading_by, size_worth, align_worth, value_in, value_of, worth_at, worth_by, worth_in, asked_layout}
-use Rattle.cl_layout.specs.Ranges.{FitsUnsigned, InRange}
-use Rattle.cl_layout.specs.Worths.{after_known, after_unknown, binary_worth, chosen, converted, infixed, infix_at, infix_operator, integer_kind, is_not, is_remainder, is_unsigned, logical_and, logical_or, narrowed, operand_kind, prefixed, prefix_known, prefix_operator, remaining, right_operand, select, spoils, truth_of, worked, worth_as}
+use Rattle.cl_layout.specs.Constants.{binary_at, constant, integer_of, is_refused, leaf_worth, number_in, number_worth, over_one, over_parts, over_three, over_two, prefix_at, read, reading, reading_by, size_worth, align_worth, value_in, value_of, worth_at, worth_by, worth_in, asked_layout}
+use Rattle.cl_layout.specs.Ranges.{InRange}
+use Rattle.cl_layout.specs.Worths.{after_known, after_unknown, binary_worth, chosen, converted, infixed, infix_at, infix_operator, integer_kind, is_not, is_remainder, is_unsigned, logical_and, logical_or, narrowed, operand_kind, prefixed, prefix_operator, remaining, right_operand, select, spoils, truth_of, worked, worth_as}
 
 below_power : (n m : ℕ) → 0 < m → n % m < m
 below_power n m h = mod-lt n h

@@ -1,6 +1,6 @@
 -- What operations on integers of a type give, in constant expressions (N1570 6.3.1.2, 6.3.1.3, 6.5, 6.6). A value is one of 64 bits,
 -- signed or not as its type is.
-use Rattle.std.specs.Prelude.{ℕ, pos, ◌+◌, ◌*◌, ◌%◌, ◌^◌, ◌==◌, ◌&&◌, ◌||◌, not, Bool, true, false, if◌then◌else◌, nat_lt, Option, Some, None}
+use Rattle.std.specs.Prelude.{◌*◌, ◌%◌, ◌^◌, ◌==◌, ◌&&◌, ◌||◌, not, Bool, true, false, if◌then◌else◌, nat_lt, Option, Some, None}
 use Rattle.std.specs.Int.{cast_signed, w8, w16, w32, w64}
 use Rattle.cl_const.specs.declared.number.Number.{Number}
 use Rattle.cl_const.specs.declared.number.Number.TheVariants.{Signed, Unsigned}

@@ -1,6 +1,6 @@
 -- Derivations keep the normal form of qualifiers.
-use Rattle.std.proofs.Common.{◌≡◌, ◌<◌, ◌&&◌, ℕ, Bool, true, false, Option, Some, None, if◌then◌else◌, refl, sym, ap, subst, ◌∙◌, rules}
-use Rattle.std.specs.Prelude.{not, ◌||◌}
+use Rattle.std.proofs.Common.{◌≡◌, ◌<◌, ℕ, Bool, true, false, Option, Some, None, if◌then◌else◌, sym, ap, ◌∙◌, rules}
+use Rattle.std.specs.Prelude.{◌||◌}
 use Rattle.std.specs.Option.{IfSome}
 use Rattle.cl_types.specs.declared.types.CType.{CType}
 use Rattle.cl_types.specs.declared.types.CType.TheOpen.{CType-F}
@@ -9,7 +9,7 @@ use Rattle.cl_types.specs.declared.types.CType.TheViews.{out-CType, roll-CType, 
 use Rattle.cl_types.specs.declared.types.Length.{Length}
 use Rattle.cl_types.specs.declared.types.Params.{Params}
 use Rattle.cl_types.specs.Compatible.{is_error}
-use Rattle.cl_types.specs.Form.{Form, Form as f, form, unqualified, unqualified_by}
+use Rattle.cl_types.specs.Form.{form}
 use Rattle.cl_types.specs.Normal.{are_normal, is_normal, is_small}
 use Rattle.cl_types.specs.Qualify.{qualified}
 use Rattle.cl_types.proofs.NormalLemmas.{array_kept, atomic_kept, atomic_within_kept, element_kept, function_kept, pointer_kept, qualified_kept}

@@ -1,5 +1,5 @@
 -- The arithmetic type of an operand's value (N1570 6.2.5p18, 6.3.2.1p2, 6.7.2.2p4).
-use Rattle.std.specs.Prelude.{if◌then◌else◌, Bool, true, false, Option, Some, None, nat_le}
+use Rattle.std.specs.Prelude.{if◌then◌else◌, Bool, false, Option, Some, None, nat_le}
 use Rattle.cl_types.specs.declared.types.Basic.{Basic}
 use Rattle.cl_types.specs.declared.types.Basic.TheVariants.{Int}
 use Rattle.cl_types.specs.declared.types.CType.{CType}

@@ -1,4 +1,4 @@
-use Rattle.std.proofs.Common.{rules, ◌≡◌, ◌≤◌, List, length, map, sym, ap, ◌∙◌, arith}
+use Rattle.std.proofs.Common.{◌≡◌, ◌≤◌, List, length, map, sym, ap, ◌∙◌, arith}
 use Rattle.std.proofs.lemmas.List.{take_all}
 use Rattle.cl_types.specs.declared.expressions.TypedExpr.TheFolds.{fold_out-TypedExpr}
 use Rattle.cl_types.specs.declared.expressions.TypedExpr.TheViews.{out-TypedExpr}
