@@ -1,14 +1,14 @@
 -- Operands, after the conversions that most operators do first: an array becomes a pointer to its element, a function a
 -- pointer to it, and any other operand loses its qualifiers and `_Atomic` (N1570 6.3.2.1p2 to p4).
-use Rattle.std.specs.Prelude.{◌==◌, ◌&&◌, ◌||◌, not, if◌then◌else◌, Bool, true, false, Option, Some, None, nat_le}
+use Rattle.std.specs.Prelude.{◌==◌, ◌&&◌, ◌||◌, not, Bool, true, false, Option, Some, None}
 use Rattle.cl_types.specs.declared.types.Basic.{Basic}
-use Rattle.cl_types.specs.declared.types.Basic.TheVariants.{Bool as BoolType, Int}
+use Rattle.cl_types.specs.declared.types.Basic.TheVariants.{Bool as BoolType}
 use Rattle.cl_types.specs.declared.types.CType.{CType}
 use Rattle.cl_types.specs.declared.types.CType.TheVariants as make
 use Rattle.cl_types.specs.declared.types.CType.TheViews.{out-CType}
 use Rattle.cl_types.specs.declared.types.Params.{Params}
 use Rattle.cl_types.specs.Compatible.{compatible, is_enum}
-use Rattle.cl_types.specs.Form.{Form, Form as f, form, place, unqualified}
+use Rattle.cl_types.specs.Form.{Form, Form as f, form, unqualified}
 use Rattle.cl_types.specs.Kinds.{arithmetic, is_integer_kind, stripped}
 use Rattle.cl_types.specs.Qualify.{qualifiers_of}
 
