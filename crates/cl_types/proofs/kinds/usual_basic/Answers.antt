@@ -1,9 +1,9 @@
 use Rattle.std.proofs.Common.{◌≡◌, ◌∙◌, refl}
 use Rattle.cl_types.specs.declared.types.Basic.{Basic}
 use Rattle.cl_types.specs.declared.types.Basic.TheVariants.{Bool as BoolType, Char, SChar, UChar, Short, UShort, Int, UInt, Long, ULong, LLong, ULLong, Float, Double, LDouble}
-use Rattle.cl_conv.specs.Usual.{usual_basic}
-use Rattle.cl_conv.specs.code.Levels.{level, by_levels}
-use Rattle.cl_conv.proofs.conversions.usual_basic.Goals as goal
+use Rattle.cl_types.specs.Usual.{usual_basic}
+use Rattle.cl_types.specs.code.Levels.{level, by_levels}
+use Rattle.cl_types.proofs.kinds.usual_basic.Goals as goal
 
 -- each of the 225 pairs computes
 agree : (a b : Basic) → by_levels (level a) (level b) ≡ usual_basic a b

@@ -16,7 +16,7 @@ enum State {
 }
 
 /// The bytes that a text stands for.
-pub(crate) fn unescaped(alloc: Global, text: &str) -> Mem<Vec<u8>> {
+pub fn unescaped(alloc: Global, text: &str) -> Mem<Vec<u8>> {
     let mut bytes = Vec::new(alloc);
     let mut state = State::Plain;
     for byte in text.as_bytes() {
@@ -54,7 +54,7 @@ fn digit(byte: u8) -> u8 {
 }
 
 /// The text that stands for bytes.
-pub(crate) fn escaped(alloc: Global, bytes: &[u8]) -> Mem<String> {
+pub fn escaped(alloc: Global, bytes: &[u8]) -> Mem<String> {
     let mut text = String::new(alloc);
     for byte in bytes {
         match *byte {

@@ -3,12 +3,12 @@
 ghost use Rattle.std.specs.Prelude.{◌≡◌, ◌++◌, true, codes, string_bytes, IfOk, OnOk};
 ghost use Rattle.cl_lossy.specs.Lossy.{shown};
 ghost use Rattle.std.specs.Fmt.{decimal};
-ghost use Rattle.cl_types.specs.code.Leaves.{leaf_base};
-ghost use Rattle.cl_types.specs.Print.{basic_word, qualifier_words, tag_word, tag_name, length_text, gap, between, based, pointer_declarator, star, separator, ending, parameters, parameters_text, printed, printed_params, spelled_each, text_of};
+ghost use Rattle.cl_print.specs.code.Bases.{leaf_base};
+ghost use Rattle.cl_print.specs.Print.{basic_word, qualifier_words, tag_word, tag_name, length_text, gap, between, based, pointer_declarator, star, separator, ending, parameters, parameters_text, printed, printed_params, spelled_each, text_of};
 
-use crate::types::{Basic, CType, Length, Params, TagWord, basic_of};
 use cl_base::{List, Mem, Name};
 use cl_lossy::shown;
+use cl_types::{Basic, CType, Length, Params, TagWord, basic_of};
 use std::alloc::Global;
 
 fn basic_word(k: Basic) -> &'static [u8]
