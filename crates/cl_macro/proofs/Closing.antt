@@ -1,10 +1,10 @@
 -- The `)` that has no `(` among the tokens before it.
-use Rattle.std.proofs.Common.{◌≡◌, ℕ, zero, suc, ◌+◌, ◌-◌, ◌≤◌, ◌<◌, Bool, true, false, ◌&&◌, List, [], ◌∷◌, ◌++◌, length, drop, take, Option, Some, None, refl, sym, ap, subst, ◌∙◌, arith}
+use Rattle.std.proofs.Common.{◌≡◌, ℕ, zero, suc, ◌+◌, ◌-◌, ◌≤◌, ◌<◌, Bool, true, false, ◌&&◌, List, [], ◌∷◌, ◌++◌, length, drop, take, Option, Some, None, refl, sym, ap, ◌∙◌, arith}
 use Rattle.std.specs.Prelude.{◌==◌, if◌then◌else◌}
 use Rattle.std.specs.Option.{option_map}
 use Rattle.std.proofs.lemmas.Bool.Decides.{nat_tests}
 use Rattle.cl_macro.specs.declared.word.Word.{Word}
-use Rattle.cl_macro.specs.Turns.{close_at, ends, parts, depth_after, parted, before_first, is_close, is_open}
+use Rattle.cl_macro.specs.Turns.{close_at, ends, depth_after, is_close, is_open}
 
 true_not_false : true ≡ false → ⊥
 true_not_false e = cc

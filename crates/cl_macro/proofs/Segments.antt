@@ -1,17 +1,16 @@
 -- Tokens that many invocations share.
-use Rattle.std.proofs.Common.{◌≡◌, ℕ, zero, suc, ◌+◌, ◌-◌, ◌≤◌, ◌<◌, ◌^◌, List, [], ◌∷◌, ◌++◌, length, drop, take, map, reverse, Option, Some, None, true, nat_lt, get_or, IfSome, refl, sym, ap, subst, ◌∙◌, arith, length-drop}
+use Rattle.std.proofs.Common.{◌≡◌, ℕ, zero, suc, ◌+◌, ◌-◌, ◌≤◌, ◌<◌, ◌^◌, List, [], ◌∷◌, ◌++◌, length, drop, map, reverse, Option, Some, None, true, nat_lt, get_or, IfSome, refl, sym, ap, subst, ◌∙◌, arith, length-drop}
 use Rattle.std.specs.List.{slice_get}
 use Rattle.std.specs.Option.{option_map}
 use Rattle.std.proofs.lemmas.List.{length-map, length-reverse, reverse-append, map-append, append_assoc}
-use Rattle.std.proofs.lemmas.Grind.{common_steps}
 use Rattle.std.proofs.lemmas.Bool.{ltb-true}
 use Rattle.cl_macro.specs.declared.segment.Slot.{Slot}
 use Rattle.cl_macro.specs.declared.word.Word.{Word}
-use Rattle.cl_macro.specs.Turns.{close_at, is_close, is_open}
+use Rattle.cl_macro.specs.Turns.{close_at}
 use Rattle.cl_macro.specs.Words.{fresh, taken}
 use Rattle.cl_macro.specs.code.Segments.{Linked, slot_word}
 use Rattle.cl_macro.proofs.Closing.{close_within, close_deeper, then_close}
-use Rattle.cl_macro.proofs.Lists.{drop_here, drop_past, get_reverse}
+use Rattle.cl_macro.proofs.Lists.{drop_past, get_reverse}
 
 -- ---- slots by place
 

@@ -1,10 +1,10 @@
-use crate::segment::Slot;
-use crate::word::{Word, place_of};
-use cl_base::{PpToken, Span};
-
 ghost use Rattle.std.specs.Prelude.{◌≡◌};
 ghost use Rattle.cl_macro.specs.Levels.{seen_word};
 ghost use Rattle.cl_macro.specs.Words.{place_of};
+
+use crate::segment::Slot;
+use crate::word::{Word, place_of};
+use cl_base::{PpToken, Span};
 
 /// A token that is looked at: one that a replacement made, one that an invocation took, or one of the run.
 #[derive(Clone, Copy)]

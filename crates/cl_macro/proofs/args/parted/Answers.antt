@@ -1,8 +1,6 @@
-use Rattle.std.proofs.Common.{◌≡◌, ◌+◌, ◌-◌, ◌<◌, ◌≤◌, ◌++◌, ◌∷◌, [], true, false, ℕ, List, Some, ap, sym, subst, ◌∙◌, arith, length, drop}
-use Rattle.std.specs.Prelude.{slice_range}
+use Rattle.std.proofs.Common.{◌+◌, ◌-◌, ◌<◌, ◌≤◌, ◌++◌, ◌∷◌, [], ℕ, List, ap, sym, subst, ◌∙◌, arith, length}
 use Rattle.std.proofs.lemmas.Option.{slice_get_within}
 use Rattle.cl_macro.specs.declared.word.Word.{Word}
-use Rattle.cl_macro.specs.Turns.{close_at, depth_after}
 use Rattle.cl_macro.specs.code.Segments.{Opens, slot_word}
 use Rattle.cl_macro.proofs.Taking.{Parting, parting_done, parting_hop, parting_none, parting_on, parting_part}
 use Rattle.cl_macro.proofs.args.parted.Goals as goal

@@ -1,5 +1,4 @@
-use Rattle.std.proofs.Common.{◌≡◌, ◌+◌, ◌-◌, ◌<◌, ◌≤◌, ap, sym, ◌∙◌, arith, length, drop}
-use Rattle.std.specs.Prelude.{slice_range}
+use Rattle.std.proofs.Common.{◌≡◌, ◌+◌, ◌-◌, ap, sym, ◌∙◌, arith, length, drop}
 use Rattle.cl_macro.specs.Turns.{close_at}
 use Rattle.cl_macro.proofs.Windows.{group_cut, group_is, range_long}
 use Rattle.cl_macro.proofs.window.Window.group.Goals as goal

@@ -1,4 +1,4 @@
-use Rattle.std.proofs.Common.{◌≡◌, ◌+◌, ◌-◌, ◌<◌, ◌≤◌, ap, sym, ◌∙◌, arith, length}
+use Rattle.std.proofs.Common.{◌≡◌, ◌+◌, ◌-◌, ◌≤◌, ap, sym, ◌∙◌, arith, length}
 use Rattle.std.specs.Prelude.{slice_range}
 use Rattle.cl_macro.proofs.Windows.{range_long, range_range}
 use Rattle.cl_macro.proofs.window.Window.part.Goals as goal

@@ -1,4 +1,4 @@
-use Rattle.std.proofs.Common.{◌≡◌, ◌+◌, ◌-◌, ◌<◌, ◌≤◌, ◌++◌, ◌∷◌, [], ap, sym, ◌∙◌, arith, length, take}
+use Rattle.std.proofs.Common.{◌+◌, ◌-◌, ◌<◌, ◌++◌, ◌∷◌, [], ap, sym, ◌∙◌, arith, length, take}
 use Rattle.std.proofs.lemmas.List.{take_all}
 use Rattle.std.proofs.lemmas.Option.{slice_get_within}
 use Rattle.cl_macro.specs.code.Segments.{slot_word}
@@ -19,7 +19,7 @@ loop-slot-preserved c =
     let h : c.loop-slot.i < length c.args.self.now = slice_get_within c.args.self.now c.loop-slot.i (slot_word c.in-Some.slot.now) (sym c.in-Some.ensures) in (
       omega arith,
       c.in_ok-push.ensures.ok ∙ ap (λ ws. ws ++ c.in_ok-word.field-0 ∷ []) c.loop-slot.invariant.1 ∙ ap (λ w. take c.loop-slot.i c.args.self.now ++ w ∷ []) c.in_ok-word.ensures
-      ∙ sym (take_on c.args.self.now c.loop-slot.i (slot_word c.in-Some.slot.now) (sym c.in-Some.ensures)),
+          ∙ sym (take_on c.args.self.now c.loop-slot.i (slot_word c.in-Some.slot.now) (sym c.in-Some.ensures)),
     )
 
 pub returns : goal.returns
