@@ -1,3 +1,1 @@
-mod Places
 mod Found
-mod Listed

@@ -2,7 +2,7 @@
 //! what the texts behind it are read as, `typedefs` which names are typedef names before each, and an empty line and one
 //! that begins with `;` say nothing.
 
-use crate::trees;
+use crate::{files, trees};
 use cl_base::{Mem, Name};
 use cl_tree::NameSet;
 use std::alloc::Global;
@@ -18,6 +18,10 @@ enum Section {
     TypeName,
     /// Files, with whether they end whole.
     EndsWhole,
+    /// Files, with their items.
+    Items,
+    /// Files, with what they declare.
+    Outline,
 }
 
 /// What stands between the lines of a table.
@@ -57,7 +61,9 @@ impl Table {
             Section::Expression => trees::expression(alloc, text.as_bytes(), &self.typedefs)?,
             Section::Declaration => trees::declaration(alloc, text.as_bytes(), &self.typedefs)?,
             Section::TypeName => trees::type_name(alloc, text.as_bytes(), &self.typedefs)?,
-            Section::EndsWhole => trees::whole(alloc, text.as_bytes())?,
+            Section::EndsWhole => files::whole(alloc, text.as_bytes())?,
+            Section::Items => files::items_of(alloc, text.as_bytes())?,
+            Section::Outline => files::outline_of(alloc, text.as_bytes())?,
         };
         let shown = format!(in alloc; "{text} => {found}\n")?;
         Ok(shown)
@@ -78,6 +84,8 @@ fn section_of(name: &str) -> Section {
         "[declaration]" => Section::Declaration,
         "[type name]" => Section::TypeName,
         "[ends whole]" => Section::EndsWhole,
+        "[items]" => Section::Items,
+        "[outline]" => Section::Outline,
         _ => Section::Expression,
     }
 }
