@@ -48,12 +48,12 @@ kind_of so.Typedef = 26
 kind_of so.Structure = 23
 kind_of so.Enumeration = 10
 
--- the symbol of a declaration: its range is the whole item's, its selection that of the name
-unfoldable pub symbol_of : List ℕ → List PpToken → Mention → PpToken → Symbol
-symbol_of text tokens m name = roll-Symbol (record {
+-- the symbol of a declaration in an item of this range: its selection is where its name is written
+unfoldable pub symbol_by : List ℕ → Range → Mention → PpToken → Symbol
+symbol_by text range m name = roll-Symbol (record {
   kind = kind_of m.sort;
   name = name.text;
-  range = item_range text tokens m.from m.to;
+  range = range;
   selection = range_of text (written_by name.spell name.at).from (written_by name.spell name.at).to;
   children = [];
 })
@@ -61,7 +61,7 @@ symbol_of text tokens m name = roll-Symbol (record {
 -- a declaration is the document's if its name stands there
 abbrev pub symbols_by : List ℕ → List PpToken → Mention → Option PpToken → List Symbol
 symbols_by text tokens m None = []
-symbols_by text tokens m (Some name) = if name.at.file == 0 then symbol_of text tokens m name ∷ [] else []
+symbols_by text tokens m (Some name) = if name.at.file == 0 then symbol_by text (item_range text tokens m.from m.to) m name ∷ [] else []
 
 abbrev pub symbols_for : List ℕ → List PpToken → Mention → List Symbol
 symbols_for text tokens m = symbols_by text tokens m (slice_get tokens m.at)

@@ -1,6 +1,6 @@
 //! The symbols of a text.
 
-ghost use Rattle.std.specs.Prelude.{◌≡◌, ◌<◌, ◌^◌, ◌==◌, ◌++◌, if◌then◌else◌, length, max, min, slice_range, IfOk, OnOk};
+ghost use Rattle.std.specs.Prelude.{◌≡◌, ◌<◌, ◌^◌, ◌==◌, ◌++◌, ◌∷◌, [], if◌then◌else◌, length, max, min, slice_range, IfOk, OnOk};
 ghost use Rattle.std.specs.List.{flat_map};
 ghost use Rattle.cl_query.specs.Symbols as s;
 ghost use Rattle.cl_query.specs.code.Places.{AllStand, IsRanged};
@@ -150,21 +150,57 @@ fn add_symbol(
     requires range { range ≡ s.item_range text.now tokens.now mention.from mention.to }
     ensures { OnOk result (symbols.new ≡ symbols.old ++ s.symbols_for text.now tokens.now mention) }
 {
-    let Some(name) = tokens.get(mention.at as usize) else {
-        return Ok(());
-    };
+    match tokens.get(mention.at as usize) {
+        Some(name) => add_named(alloc, symbols, text, landmarks, mention, range, name),
+        None => Ok(()),
+    }
+}
+
+/// Adds the symbol of a declaration with this name, if that stands in the document.
+fn add_named(
+    alloc: Global,
+    symbols: &mut List<Symbol>,
+    text: &[u8],
+    landmarks: &Landmarks,
+    mention: Mention,
+    range: Range,
+    name: &PpToken,
+) -> Mem<()>
+    requires room { length text.now < 2 ^ 32 }
+    requires stands { AllStand text.now landmarks.now.cursors }
+    ensures { OnOk result (symbols.new ≡ symbols.old ++ (if name.now.at.file == 0 then s.symbol_by text.now range mention name.now ∷ [] else [])) }
+{
     if name.at.file != 0 {
         return Ok(());
     }
-    let place = written(name);
-    let symbol = Symbol {
-        kind: kind_of(mention.sort),
-        name: Text::new(alloc, name.text.bytes())?,
-        range,
-        selection: landmarks.range(text, place.from, place.to),
-        children: List::new(alloc),
-    };
+    let symbol = symbol_by(alloc, text, landmarks, mention, range, name)?;
     symbols.push(symbol)
+}
+
+/// The symbol of a declaration with this name, in an item of this range.
+#[tactic(auto, unfolding(crate::specs::Symbols::symbol_by))]
+fn symbol_by(
+    alloc: Global,
+    text: &[u8],
+    landmarks: &Landmarks,
+    mention: Mention,
+    range: Range,
+    name: &PpToken,
+) -> Mem<Symbol>
+    requires room { length text.now < 2 ^ 32 }
+    requires stands { AllStand text.now landmarks.now.cursors }
+    ensures { IfOk result (λ symbol. symbol ≡ s.symbol_by text.now range mention name.now) }
+{
+    let place = written(name);
+    let selection = landmarks.range(text, place.from, place.to);
+    let shown = Text::new(alloc, name.text.bytes())?;
+    Ok(Symbol {
+        kind: kind_of(mention.sort),
+        name: shown,
+        range,
+        selection,
+        children: List::new(alloc),
+    })
 }
 
 /// Where a token is written, if that is in the document, and else where it stands.
