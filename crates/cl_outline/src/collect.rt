@@ -105,11 +105,8 @@ fn inner(place: Place, role: Role) -> Place
             members: true,
             ..place
         },
-        Role::Scoped
-        | Role::Name
-        | Role::Structure(_)
-        | Role::Enumeration(_)
-        | Role::Plain => place,
+        Role::Scoped | Role::Name | Role::Structure(_) | Role::Enumeration(_) | Role::Plain =>
+            place,
     }
 }
 

@@ -44,12 +44,7 @@ fn declaring(alloc: Global, tokens: &[PpToken], mentions: &[Mention]) -> Mem<Lis
 }
 
 /// Adds a mention that declares its name, where these tags were named before.
-fn push_declared(
-    all: &mut List<Mention>,
-    mention: Mention,
-    tags: &NameSet,
-    name: &Name,
-) -> Mem<()>
+fn push_declared(all: &mut List<Mention>, mention: Mention, tags: &NameSet, name: &Name) -> Mem<()>
     ensures { OnOk result (all.new ≡ all.old ++ (if mention.declares || not (has tags.now name.now) then mention ∷ [] else [])) }
 {
     if mention.declares || !tags.has(name) {

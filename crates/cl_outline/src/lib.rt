@@ -6,5 +6,5 @@ mod declared;
 mod mention;
 mod role;
 
-pub use mention::{Mention, Sort};
 pub use declared::outline;
+pub use mention::{Mention, Sort};

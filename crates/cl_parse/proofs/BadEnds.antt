@@ -1,11 +1,11 @@
 -- How far a bad item goes.
-use Rattle.std.proofs.Common.{◌≡◌, ◌⊎◌, ℕ, zero, suc, ◌+◌, ◌-◌, ◌<◌, ◌≤◌, Bool, true, false, List, ⊎_elim, inl, inr, refl, sym, ◌∙◌, ap, subst, arith, length}
-use Rattle.std.specs.Prelude.{nat_lt, slice_get, cond}
-use Rattle.std.proofs.lemmas.Bool.{both_ways, cases_lt, ltb-true, ltb-false}
+use Rattle.std.proofs.Common.{◌≡◌, ℕ, zero, suc, ◌+◌, ◌-◌, ◌<◌, ◌≤◌, Bool, true, false, List, inl, inr, refl, subst, arith}
+use Rattle.std.specs.Prelude.{nat_lt}
+use Rattle.std.proofs.lemmas.Bool.{ltb-true}
 use Rattle.cl_base.specs.declared.token.PpToken.{PpToken}
-use Rattle.cl_tree.specs.Brackets.{bad_extent, bad_from, brace_at, partner_by, past_group, spells_at}
-use Rattle.cl_parse.specs.Extents.{AtDepth, Extent, Stops, after, begins_body, is_semicolon, past, past_stop, partner}
-use Rattle.cl_parse.specs.code.Marks.{Ends, Reaches}
+use Rattle.cl_tree.specs.Brackets.{bad_extent, bad_from, brace_at}
+use Rattle.cl_parse.specs.Extents.{AtDepth, after, is_semicolon, past, partner}
+use Rattle.cl_parse.specs.code.Marks.{Ends}
 use Rattle.cl_parse.proofs.Depths.{after_more, goes_past}
 
 -- where the walk ends that tells how far a bad item goes: at no token behind, or past one at the depth of the first

@@ -1,5 +1,5 @@
 -- The tokens as the grammar reads them, read piece by piece.
-use Rattle.std.proofs.Common.{◌≡◌, ℕ, suc, ◌+◌, ◌-◌, ◌≤◌, List, [], ◌∷◌, ◌++◌, length, take, drop, refl, sym, ap, ◌∙◌, subst, arith, append_assoc, append-nil, take-add, drop-drop, take_at, length-append, length-take-le, length-drop}
+use Rattle.std.proofs.Common.{◌≡◌, ℕ, suc, ◌+◌, ◌-◌, ◌≤◌, List, [], ◌∷◌, ◌++◌, length, take, drop, refl, sym, ap, ◌∙◌, arith, append_assoc, append-nil, take-add, drop-drop, take_at, length-append, length-take-le, length-drop}
 use Rattle.std.specs.Prelude.{Bool, slice_range}
 use Rattle.cl_base.specs.declared.token.PpToken.{PpToken}
 use Rattle.cl_tree.specs.Lexemes.{lexeme_of, lexemes_from, lexemes_to}

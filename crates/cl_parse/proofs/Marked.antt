@@ -1,12 +1,11 @@
 -- The first tokens that tell where an item ends.
-use Rattle.std.proofs.Common.{◌≡◌, ◌⊎◌, ℕ, zero, suc, ◌+◌, ◌-◌, ◌<◌, ◌≤◌, Bool, true, false, List, ⊎_elim, inl, inr, refl, sym, ◌∙◌, ap, subst, arith, length}
-use Rattle.std.proofs.lemmas.Bool.{both_ways, cases_lt, cases_order}
+use Rattle.std.proofs.Common.{◌≡◌, ◌⊎◌, ℕ, ◌+◌, ◌-◌, ◌<◌, ◌≤◌, Bool, true, false, List, ⊎_elim, inl, inr, refl, sym, ◌∙◌, ap, subst, arith, length}
+use Rattle.std.proofs.lemmas.Bool.{both_ways, cases_lt}
 use Rattle.cl_base.specs.declared.token.PpToken.{PpToken}
 use Rattle.cl_parse.specs.Extents.{AtDepth, NoEqual, Stops, after, begins_body, is_equal, is_semicolon, past, past_stop, partner}
 use Rattle.cl_parse.specs.code.Marks.{AreMarks, Ends, IsFirst, Reaches, is_sign}
 use Rattle.cl_parse.specs.declared.marks.Marks.{Marks}
 use Rattle.cl_parse.specs.declared.marks.Sign.{Sign}
-use Rattle.cl_parse.specs.declared.marks.Sign.TheVariants.{Semicolon, Equal, Body}
 use Rattle.cl_parse.proofs.Depths.{after_add, after_more, goes_past, same_place}
 use Rattle.cl_parse.proofs.Bounds.{body_ahead}
 

@@ -1,7 +1,7 @@
 -- From item to item through what is read of a file.
-use Rattle.std.proofs.Common.{◌≡◌, ◌⊎◌, ℕ, suc, ◌+◌, ◌-◌, ◌<◌, ◌≤◌, List, [], ◌∷◌, ◌++◌, length, take, drop, refl, sym, ap, ◌∙◌, subst, inl, inr, ⊎_elim, arith, length-take-le}
-use Rattle.std.proofs.lemmas.List.{take-append-le, take-take, take_all}
-use Rattle.std.specs.Prelude.{Bool, slice_range}
+use Rattle.std.proofs.Common.{◌≡◌, ℕ, ◌<◌, ◌≤◌, List, [], ◌∷◌, length, take, refl, sym, ap, ◌∙◌, subst, inl, inr, ⊎_elim, arith, length-take-le}
+use Rattle.std.proofs.lemmas.List.{take-append-le, take_all}
+use Rattle.std.specs.Prelude.{slice_range}
 use Rattle.cl_base.specs.declared.token.PpToken.{PpToken}
 use Rattle.cl_tree.specs.Brackets.{bad_extent}
 use Rattle.cl_tree.specs.Derives.{External, end}
@@ -14,10 +14,9 @@ use Rattle.cl_tree.specs.declared.scope.Scope.{Scope}
 use Rattle.cl_tree.specs.declared.set.NameSet.{NameSet}
 use Rattle.cl_tree.specs.declared.tree.Tree.{Tree}
 use Rattle.cl_parse.specs.Extents.{Extent}
-use Rattle.cl_parse.specs.Items.{IsBad, IsProper, ItemTiles, Names, learned}
+use Rattle.cl_parse.specs.Items.{IsProper, ItemTiles, Names, learned}
 use Rattle.cl_parse.specs.code.Marks.{AreMarks}
 use Rattle.cl_parse.specs.code.Reading.{IsExtended, IsNext, IsSettled, Reads, before}
-use Rattle.cl_parse.specs.declared.item.Item.{Item}
 use Rattle.cl_parse.specs.declared.item.Item.TheVariants.{Proper, Bad}
 use Rattle.cl_parse.specs.declared.marks.Marks.{Marks}
 use Rattle.cl_parse.specs.declared.parse.Next.{Next}
@@ -52,9 +51,12 @@ module _ (tokens : List PpToken) (pairs : List ℕ) where
   further names a b at to e l m n f =
       let k : length (take at a) ≡ at = length-take-le at a l in
       let size : length b ≡ to = ap length f ∙ to_length names pairs tokens a to m n in
-      let same : take at b ≡ take at a = ap (take at) f ∙ take-append-le at a (lexemes_from names pairs tokens (length a) (slice_range tokens (length a) to)) l in
-      (size, same, f ∙ ap (λ (r : List Lexeme). lexemes_to names pairs tokens r to) e ∙ to_further names pairs tokens (take at a) (length a) to (omega arith) m n
-      ∙ ap (λ (r : List Lexeme). lexemes_to names pairs tokens r to) (sym same) ∙ ap (λ (k : ℕ). lexemes_to names pairs tokens (take at b) k) (sym size))
+      let same : take at b ≡ take at a = ap (take at) f ∙ take-append-le at a (lexemes_from names pairs tokens (length a) (slice_range tokens (length a) to)) l in (
+        size,
+        same,
+        f ∙ ap (λ (r : List Lexeme). lexemes_to names pairs tokens r to) e ∙ to_further names pairs tokens (take at a) (length a) to (omega arith) m n
+            ∙ ap (λ (r : List Lexeme). lexemes_to names pairs tokens r to) (sym same) ∙ ap (λ (k : ℕ). lexemes_to names pairs tokens (take at b) k) (sym size),
+      )
 
   pub extends : (old : Reading) (to : ℕ) (a : List Lexeme) → Reads tokens pairs old → length old.ahead ≤ to → to ≤ length tokens → a ≡ lexemes_to (has old.names) pairs tokens old.ahead to
       → IsExtended tokens pairs old to (record { names = old.names; ahead = a; at = old.at; marks = old.marks })
@@ -127,7 +129,7 @@ module _ (tokens : List PpToken) (pairs : List ℕ) where
           after,
           p,
           subst (λ (r : List Lexeme). ItemTiles tokens pairs (learned (has old.names) (lexemes_to (has old.names) pairs tokens (before old) (end tree)) after) r items) (both.1 ∙ is)
-          (subst (λ (n : Names). ItemTiles tokens pairs n (before new) items) names tiles),
+              (subst (λ (n : Names). ItemTiles tokens pairs n (before new) items) names tiles),
         );
       }
 

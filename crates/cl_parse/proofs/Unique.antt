@@ -1,6 +1,5 @@
 -- A file has one list of items.
-use Rattle.std.proofs.Common.{◌≡◌, ℕ, ◌<◌, List, [], ◌∷◌, refl, sym, ◌∙◌, ap, subst, arith, length}
-use Rattle.std.proofs.lemmas.Option.{slice_get_past}
+use Rattle.std.proofs.Common.{◌≡◌, ℕ, List, [], ◌∷◌, refl, sym, ◌∙◌, ap, subst, arith, length}
 use Rattle.cl_base.specs.declared.token.PpToken.{PpToken}
 use Rattle.cl_tree.specs.Brackets.{bad_extent}
 use Rattle.cl_tree.specs.Derives.{External, end}
@@ -11,7 +10,7 @@ use Rattle.cl_tree.specs.declared.scope.Scope.{Scope}
 use Rattle.cl_tree.specs.declared.tree.Tree.{Tree}
 use Rattle.cl_parse.specs.declared.item.Item.{Item}
 use Rattle.cl_parse.specs.declared.item.Item.TheVariants.{Proper, Bad}
-use Rattle.cl_parse.specs.Items.{IsBad, IsProper, ItemTiles, Names, learned}
+use Rattle.cl_parse.specs.Items.{IsProper, ItemTiles, Names, learned}
 use Rattle.cl_parse.proofs.OneExtent.{one_extent}
 
 -- an external declaration has one tree and one scope after it

@@ -54,12 +54,7 @@ pub fn items(alloc: Global, tokens: &[PpToken], typedefs: NameSet) -> Mem<List<I
 }
 
 /// The same, where these are the partners of the brackets.
-fn tiles(
-    alloc: Global,
-    tokens: &[PpToken],
-    pairs: &List<u32>,
-    typedefs: NameSet,
-) -> Mem<List<Item>>
+fn tiles(alloc: Global, tokens: &[PpToken], pairs: &List<u32>, typedefs: NameSet) -> Mem<List<Item>>
     requires room { length tokens.now < 2 ^ 32 - 4 }
     ensures { IfOk result (ItemTiles tokens.now pairs.now (has typedefs) []) }
 {
@@ -79,12 +74,7 @@ fn tiles(
 }
 
 /// The next item.
-fn next_item(
-    alloc: Global,
-    tokens: &[PpToken],
-    pairs: &List<u32>,
-    reading: Reading,
-) -> Mem<Next>
+fn next_item(alloc: Global, tokens: &[PpToken], pairs: &List<u32>, reading: Reading) -> Mem<Next>
     requires room { length tokens.now < 2 ^ 32 - 4 }
     requires some { reading.at < length tokens.now }
     requires reads { Reads tokens.now pairs.now reading }
@@ -218,12 +208,7 @@ fn settled(
 }
 
 /// A bad item.
-fn passed(
-    alloc: Global,
-    tokens: &[PpToken],
-    pairs: &List<u32>,
-    reading: Reading,
-) -> Mem<Next>
+fn passed(alloc: Global, tokens: &[PpToken], pairs: &List<u32>, reading: Reading) -> Mem<Next>
     requires room { length tokens.now < 2 ^ 32 - 4 }
     requires some { reading.at < length tokens.now }
     requires reads { Reads tokens.now pairs.now reading }

@@ -51,7 +51,15 @@ fn listed(
     let mut item = item_at(text, tokens, landmarks, 0, 0);
     for mention in mentions {
         item = next_range(text, tokens, landmarks, item, *mention);
-        add_symbol(alloc, &mut symbols, text, tokens, landmarks, *mention, item.range)?;
+        add_symbol(
+            alloc,
+            &mut symbols,
+            text,
+            tokens,
+            landmarks,
+            *mention,
+            item.range,
+        )?;
     }
     Ok(symbols)
 }
@@ -208,13 +216,7 @@ fn written(token: &PpToken) -> Span
     ensures { result ≡ s.written_by token.now.spell token.now.at }
 {
     match token.spell {
-        Some(spell) => {
-            if spell.file == 0 {
-                spell
-            } else {
-                token.at
-            }
-        }
+        Some(spell) => { if spell.file == 0 { spell } else { token.at } }
         None => token.at,
     }
 }

@@ -1,7 +1,6 @@
-use Rattle.std.proofs.Common.{◌≡◌, ◌<◌, ℕ, sym, subst, arith, length}
-use Rattle.cl_tree.specs.Brackets.{bad_extent}
+use Rattle.std.proofs.Common.{◌<◌, ℕ, sym, subst, arith, length}
 use Rattle.cl_parse.specs.code.Marks.{Ends}
-use Rattle.cl_parse.proofs.BadEnds.{BadEnd, Passes, bad_bounds, bad_end, bad_reaches}
+use Rattle.cl_parse.proofs.BadEnds.{BadEnd, bad_bounds, bad_end, bad_reaches}
 use Rattle.cl_parse.proofs.Read.{bad_next}
 use Rattle.cl_parse.proofs.parse.bad.Goals as goal
 

@@ -1,16 +1,12 @@
-use Rattle.std.proofs.Common.{◌≡◌, ◌<◌, ℕ, List, Option, Some, None, false, true, refl, sym, subst, ap, ◌∙◌}
+use Rattle.std.proofs.Common.{◌≡◌, ◌<◌, ℕ, List, Option, Some, None, sym, subst, ap, ◌∙◌}
 use Rattle.std.proofs.lemmas.Bool.{false≢true}
 use Rattle.std.specs.Prelude.{IfSome, is_some}
 use Rattle.cl_expr.specs.declared.expression.Parsed.{Parsed}
-use Rattle.cl_tree.specs.Derives.{External}
-use Rattle.cl_tree.specs.Scopes.{empty}
 use Rattle.cl_tree.specs.Sets.{has}
-use Rattle.cl_tree.specs.declared.scope.Scope.{Scope}
-use Rattle.cl_tree.specs.declared.tree.Tree.{Tree}
 use Rattle.cl_parse.specs.Extents.{Extent}
 use Rattle.cl_parse.specs.Items.{IsProper}
 use Rattle.cl_parse.specs.code.Reading.{IsExtended, IsNext, before}
-use Rattle.cl_parse.proofs.Read.{external_of, next_of, none_of, proper_of}
+use Rattle.cl_parse.proofs.Read.{external_of, next_of, proper_of}
 use Rattle.cl_parse.proofs.parse.next_item.Goals as goal
 
 is_none : (x : Parsed) → Some x ≡ None → ⊥
@@ -32,16 +28,16 @@ proper-requires-clause-is c =
 
 pub passed-requires-clause-none : goal.passed-requires-clause-none
 passed-requires-clause-none c = λ t w p. (
-  let tokens = c.args.tokens.now in
-  let pairs = c.as_slice-partners.result.now in
-  let read = c.in_ok-read.read in
-  let to = c.extent_end-to.result in
-  let at = c.requires.reads.from ∙ sym c.in_ok-read.ensures.at in
-  let q : IsProper tokens pairs (has read.names) (before read) t w =
-  subst (λ (ps : List ℕ). IsProper tokens ps (has read.names) (before read) t w) (sym c.as_slice-partners.ensures.value) p in
-  let x = external_of tokens pairs read to t w c.in_ok-read.ensures.reads (subst (λ (n : ℕ). n < to) at c.extent_end-to.ensures.more) c.in_ok-read.ensures.far
-  (subst (λ (n : ℕ). Extent tokens pairs n to) at c.extent_end-to.ensures.extent) q in
-  is_none (record { tree = t; scope = w }) (sym (c.in_ok-found.ensures.only t w x) ∙ c.in-None.is))
+    let tokens = c.args.tokens.now in
+    let pairs = c.as_slice-partners.result.now in
+    let read = c.in_ok-read.read in
+    let to = c.extent_end-to.result in
+    let at = c.requires.reads.from ∙ sym c.in_ok-read.ensures.at in
+    let q : IsProper tokens pairs (has read.names) (before read) t w =
+    subst (λ (ps : List ℕ). IsProper tokens ps (has read.names) (before read) t w) (sym c.as_slice-partners.ensures.value) p in
+    let x = external_of tokens pairs read to t w c.in_ok-read.ensures.reads (subst (λ (n : ℕ). n < to) at c.extent_end-to.ensures.more) c.in_ok-read.ensures.far
+    (subst (λ (n : ℕ). Extent tokens pairs n to) at c.extent_end-to.ensures.extent) q in
+    is_none (record { tree = t; scope = w }) (sym (c.in_ok-found.ensures.only t w x) ∙ c.in-None.is))
 
 pub returns-in_ok-next-in-Some : goal.returns-in_ok-next-in-Some
 returns-in_ok-next-in-Some c =

@@ -1,8 +1,8 @@
-use Rattle.std.proofs.Common.{◌≡◌, ◌<◌, ◌≤◌, ℕ, List, sym, subst, length}
+use Rattle.std.proofs.Common.{◌≤◌, ℕ, List, sym, subst, length}
 use Rattle.cl_tree.specs.Brackets.{bad_extent}
 use Rattle.cl_parse.specs.code.Reading.{IsNext}
 use Rattle.cl_parse.proofs.BadEnds.{bad_bounds, bad_end}
-use Rattle.cl_parse.proofs.Read.{next_of, none_of}
+use Rattle.cl_parse.proofs.Read.{next_of}
 use Rattle.cl_parse.proofs.parse.passed.Goals as goal
 
 pub extended-requires-clause-within : goal.extended-requires-clause-within

@@ -1,4 +1,3 @@
-use Rattle.std.proofs.Common.{ap}
 use Rattle.cl_parse.specs.code.Reading.{IsSettled}
 use Rattle.cl_parse.proofs.Read.{proper_next}
 use Rattle.std.proofs.Common.{List, subst}
