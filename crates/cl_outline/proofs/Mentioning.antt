@@ -1,9 +1,7 @@
 -- What a tree mentions, and what of it declares.
-use Rattle.std.proofs.Common.{◌≡◌, ℕ, suc, ◌+◌, ◌<◌, Bool, true, false, List, [], ◌∷◌, ◌++◌, refl, sym, ap, ◌∙◌, subst, arith, length, map, take, drop, get_or, append-nil, append_assoc, drop-cons, add-one}
-use Rattle.std.proofs.lemmas.List.{flat_map_more, take_more}
-use Rattle.std.proofs.lemmas.Bool.{false≢true}
-use Rattle.std.specs.Prelude.{if◌then◌else◌, ◌||◌, ◌&&◌, not}
-use Rattle.std.specs.List.{flat_map, list_any}
+use Rattle.std.proofs.Common.{◌≡◌, Bool, true, false, List, [], ◌∷◌, ◌++◌, refl, sym, ap, ◌∙◌, map, append-nil, append_assoc}
+use Rattle.std.specs.Prelude.{if◌then◌else◌}
+use Rattle.std.specs.List.{flat_map}
 use Rattle.cl_base.specs.declared.token.PpToken.{PpToken}
 use Rattle.cl_tree.specs.Derives.{parts, start}
 use Rattle.cl_tree.specs.declared.tree.Tree.{Tree, out-Tree}
@@ -22,13 +20,6 @@ module _ (tokens : List PpToken) where
   through : (p : Place) (ts : List Tree) → flat_map (λ (f : Place → List Mention). f p) (map (mentions tokens) ts) ≡ flat_map (λ (t : Tree). mentions tokens t p) ts
   through p [] = refl
   through p (t ∷ ts) = ap (λ (ms : List Mention). mentions tokens t p ++ ms) (through p ts)
-
-  pub mentions_none : (t : Tree) (p : Place) (role : Role) (out : List Mention) → role ≡ role_of (out-Tree t).rule (out-Tree t).choice → is_scoped role ≡ true → out ≡ out ++ mentions tokens t p
-  mentions_none t p role out e s =
-      let none : mentions tokens t p ≡ [] =
-      mentions_out t p ∙ ap (λ (r : Role). by_role tokens p r (start t) (map (mentions tokens) (parts t))) (sym e)
-      ∙ ap (λ (b : Bool). if b then [] else own tokens p role (start t) ++ flat_map (λ (f : Place → List Mention). f (inner p role)) (map (mentions tokens) (parts t))) s in
-      sym (ap (λ (ms : List Mention). out ++ ms) none ∙ append-nil out)
 
   pub mentions_all : (t : Tree) (p : Place) (role : Role) (out mid end : List Mention) → role ≡ role_of (out-Tree t).rule (out-Tree t).choice → is_scoped role ≡ false → mid ≡ out ++ own tokens p role (start t)
       → end ≡ mid ++ flat_map (λ (x : Tree). mentions tokens x (inner p role)) (parts t) → end ≡ out ++ mentions tokens t p

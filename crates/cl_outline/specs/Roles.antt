@@ -1,5 +1,5 @@
 -- What a node of a tree says of the names in it.
-use Rattle.std.specs.Prelude.{ℕ, ◌==◌, ◌||◌, not, Bool, if◌then◌else◌}
+use Rattle.std.specs.Prelude.{ℕ, ◌==◌, ◌||◌, not, if◌then◌else◌}
 use Rattle.cl_tree.specs.declared.rule.Rule.{Rule}
 use Rattle.cl_tree.specs.declared.rule.Rule.TheVariants as ru
 use Rattle.cl_outline.specs.declared.role.Role.{Role}

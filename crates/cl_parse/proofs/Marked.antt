@@ -2,9 +2,8 @@
 use Rattle.std.proofs.Common.{◌≡◌, ◌⊎◌, ℕ, ◌+◌, ◌-◌, ◌<◌, ◌≤◌, Bool, true, false, List, ⊎_elim, inl, inr, refl, sym, ◌∙◌, ap, subst, arith, length}
 use Rattle.std.proofs.lemmas.Bool.{both_ways, cases_lt}
 use Rattle.cl_base.specs.declared.token.PpToken.{PpToken}
-use Rattle.cl_parse.specs.Extents.{AtDepth, NoEqual, Stops, after, begins_body, is_equal, is_semicolon, past, past_stop, partner}
-use Rattle.cl_parse.specs.code.Marks.{AreMarks, Ends, IsFirst, Reaches, is_sign}
-use Rattle.cl_parse.specs.declared.marks.Marks.{Marks}
+use Rattle.cl_parse.specs.Extents.{AtDepth, NoEqual, Stops, after, begins_body, is_semicolon, past, past_stop, partner}
+use Rattle.cl_parse.specs.code.Marks.{Ends, IsFirst, Reaches, is_sign}
 use Rattle.cl_parse.specs.declared.marks.Sign.{Sign}
 use Rattle.cl_parse.proofs.Depths.{after_add, after_more, goes_past, same_place}
 use Rattle.cl_parse.proofs.Bounds.{body_ahead}
@@ -59,39 +58,6 @@ first_later tokens pairs sign from to at first reaches l =
       none = λ i k f. first.none i k (through pairs from to i d f);
     })
     reaches
-
--- ---- where an item stops
-
-pub stops_at_semicolon : (tokens : List PpToken) (pairs : List ℕ) (marks : Marks) → AreMarks tokens pairs marks → marks.semicolon < length tokens → Stops tokens pairs marks.from marks.semicolon
-stops_at_semicolon tokens pairs marks m l = let s = m.semicolon.stands l in (s.0, inl s.1)
-
-pub stops_at_body : (tokens : List PpToken) (pairs : List ℕ) (marks : Marks) → AreMarks tokens pairs marks → marks.body ≤ marks.equal → marks.body < length tokens → Stops tokens pairs marks.from marks.body
-stops_at_body tokens pairs marks m e l = let s = m.body.stands l in (s.0, inr (s.1, λ j d k. m.equal.none j (omega arith) d))
-
-no_semicolon : (tokens : List PpToken) (pairs : List ℕ) (marks : Marks) (i : ℕ) → AreMarks tokens pairs marks → i < marks.semicolon → AtDepth pairs marks.from i → is_semicolon tokens i ≡ true → ⊥
-no_semicolon tokens pairs marks i m l d s = both_ways (is_semicolon tokens i) (m.semicolon.none i l d) s
-
-no_body : (tokens : List PpToken) (pairs : List ℕ) (marks : Marks) (i : ℕ) → AreMarks tokens pairs marks → AtDepth pairs marks.from i → begins_body tokens pairs i ≡ true → NoEqual tokens pairs marks.from i
-    → (marks.equal < marks.body) ⊎ (i < marks.body) → ⊥
-no_body tokens pairs marks i m d b none c =
-    ⊎_elim
-    (λ (k : i < marks.body). both_ways (begins_body tokens pairs i) (m.body.none i k d) b)
-    (λ (k : marks.body ≤ i). ⊎_elim
-    (λ (e : marks.equal < marks.body). (
-    let w : marks.body ≤ length tokens = m.body.within in
-    let s = m.equal.stands (omega arith) in
-    both_ways (is_equal tokens marks.equal) (none marks.equal s.0 (omega arith)) s.1))
-    (λ (e : i < marks.body). absurd (omega arith))
-    c)
-    (cases_lt i marks.body)
-
-pub none_stops : (tokens : List PpToken) (pairs : List ℕ) (marks : Marks) (at : ℕ) → AreMarks tokens pairs marks → at ≤ marks.semicolon → (marks.equal < marks.body) ⊎ (at ≤ marks.body)
-    → (i : ℕ) → i < at → Stops tokens pairs marks.from i → ⊥
-none_stops tokens pairs marks at m s c i l (d, f) =
-    ⊎_elim
-    (λ (k : is_semicolon tokens i ≡ true). no_semicolon tokens pairs marks i m (omega arith) d k)
-    (λ (k : (begins_body tokens pairs i ≡ true) × NoEqual tokens pairs marks.from i). no_body tokens pairs marks i m d k.0 k.1 (⊎_elim (λ (e : marks.equal < marks.body). inl e) (λ (e : at ≤ marks.body). inr (omega arith)) c))
-    f
 
 -- ---- where the next item begins
 

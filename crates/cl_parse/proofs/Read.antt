@@ -172,12 +172,7 @@ module _ (tokens : List PpToken) (pairs : List ℕ) where
         (subst (λ (s : NameSet). ItemTiles tokens pairs (has s) (before new) (next.item ∷ items)) x.names (n.tiles items tiles));
   }
 
-  pub none_of : (old new : Reading) (to : ℕ) → IsExtended tokens pairs old to new → ((t : Tree) (w : Scope) → IsProper tokens pairs (has old.names) (before old) t w → ⊥)
-      → (t : Tree) (w : Scope) → IsProper tokens pairs (has new.names) (before new) t w → ⊥
-  none_of old new to x none t w p =
-      none t w (subst (λ (r : List Lexeme). IsProper tokens pairs (has old.names) r t w) x.before (subst (λ (s : NameSet). IsProper tokens pairs (has s) (before new) t w) x.names p))
-
-  -- ---- from the first item to the last
+  -- ---- before the first item
 
   pub starts_reads : (names : NameSet) (a : List Lexeme) (marks : Marks) → a ≡ [] → marks.from ≡ 0 → AreMarks tokens pairs marks
       → Reads tokens pairs (record { names = names; ahead = a; at = 0; marks = marks })

@@ -1,12 +1,11 @@
 -- What was found is the query's answer, or the header that it needs.
-use Rattle.std.proofs.Common.{◌≡◌, ◌≢◌, ℕ, zero, suc, ◌-◌, Bool, true, false, List, [], ◌∷◌, ◌++◌, Option, Some, None, refl, sym, ap, subst, ◌∙◌, length, map, inl, inr, ◌<◌, arith}
-use Rattle.std.specs.Prelude.{if◌then◌else◌, slice_get, unwrap_or, MatchOption, ◌⊎◌}
+use Rattle.std.proofs.Common.{◌≡◌, ◌≢◌, ℕ, zero, suc, ◌-◌, Bool, true, false, List, [], ◌∷◌, Option, Some, None, refl, sym, ap, subst, ◌∙◌, length, map, ◌<◌, arith}
+use Rattle.std.specs.Prelude.{if◌then◌else◌, slice_get, unwrap_or, MatchOption}
 use Rattle.std.specs.List.{AllByRecursion}
 use Rattle.std.specs.Map.{lookup}
 use Rattle.std.specs.Ordering.{nat_cmp}
 use Rattle.std.specs.Cmp.Lexicographic.{slice_cmp}
 use Rattle.std.specs.BTreeMap.{is_at}
-use Rattle.cl_base.specs.declared.answer.Symbol.{Symbol}
 use Rattle.cl_base.specs.declared.answer.Answer.{Answer}
 use Rattle.cl_base.specs.declared.answer.Answer.TheVariants.{Symbols as Listed}
 use Rattle.cl_base.specs.declared.config.Settings.{Settings}
@@ -36,7 +35,7 @@ use Rattle.cl_parse.specs.declared.item.Item.{Item}
 use Rattle.cl_parse.specs.Items.{ItemsOf, no_names}
 use Rattle.cl_query.specs.Symbols.{symbols_in}
 use Rattle.cl_query.specs.Finding.{FindsOver, IsFoundBy, dep_in}
-use Rattle.cl_query.specs.Seen.{Agrees, says}
+use Rattle.cl_query.specs.Seen.{Agrees}
 use Rattle.cl_query.specs.Unknowns.{IsUnknown}
 
 pub only_symbols : (kind : Query) → kind ≡ Symbols

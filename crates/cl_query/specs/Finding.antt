@@ -1,6 +1,5 @@
 -- What work on a job finds.
 use Rattle.std.specs.Prelude.{◌≡◌, ℕ, List}
-use Rattle.cl_base.specs.declared.answer.Answer.{Answer}
 use Rattle.cl_base.specs.declared.answer.Answer.TheVariants.{Symbols as Listed}
 use Rattle.cl_base.specs.declared.answer.Symbol.{Symbol}
 use Rattle.cl_base.specs.declared.token.PpToken.{PpToken}

@@ -1,5 +1,5 @@
 -- What the code keeps of the places in a text.
-use Rattle.std.specs.Prelude.{◌≡◌, ℕ, ◌≤◌, List, length}
+use Rattle.std.specs.Prelude.{◌≡◌, ℕ, List}
 use Rattle.std.specs.List.{All}
 use Rattle.cl_base.specs.Lines.{position_at}
 use Rattle.cl_base.specs.declared.cursor.Cursor.{Cursor}

@@ -1,10 +1,9 @@
-use Rattle.std.proofs.Common.{◌≡◌, ◌≤◌, ◌++◌, List, length, take, sym, ap, ◌∙◌, arith}
+use Rattle.std.proofs.Common.{◌≡◌, ◌≤◌, ◌++◌, List, length, take, sym, ap, ◌∙◌}
 use Rattle.std.proofs.lemmas.List.{take_all}
 use Rattle.std.specs.List.{flat_map}
 use Rattle.cl_tree.specs.Derives.{parts}
 use Rattle.cl_tree.specs.declared.tree.Tree.{Tree}
 use Rattle.cl_outline.specs.declared.collect.Place.{Place}
-use Rattle.cl_outline.specs.declared.mention.Mention.{Mention}
 use Rattle.cl_outline.specs.Mentions.{mentions}
 use Rattle.cl_outline.proofs.Mentioning.{mentions_all}
 use Rattle.cl_outline.proofs.collect.+collect.Goals as goal

@@ -1,4 +1,4 @@
-use Rattle.std.proofs.Common.{◌≡◌, ◌++◌, take}
+use Rattle.std.proofs.Common.{◌≡◌, take}
 use Rattle.std.specs.List.{flat_map}
 use Rattle.cl_outline.specs.Mentions.{mentioned_in}
 use Rattle.cl_outline.proofs.declared.outline.Given as goal
