@@ -322,7 +322,7 @@ def cases():
     """Each line of cases.txt, and of a case its goal, its text, the typedef names and its tree."""
     goal = 'expression'; names = []
     for l in open(os.path.join(HERE, 'cases.txt')).read().split('\n')[:-1]:
-        if l == '[ends whole]' or goal is None: goal = None; yield l, None; continue
+        if l in ('[ends whole]', '[items]', '[outline]') or goal is None: goal = None; yield l, None; continue
         if l.startswith('[') and l[1:-1] in GOALS: goal = l[1:-1]; yield l, None
         elif l.startswith('typedefs'): names = l.split()[1:]; yield l, None
         elif not l or l.startswith(';'): yield l, None

@@ -10,7 +10,7 @@ pub record Within (from to end : ℕ) : Type 0 where
   pub more : from < to
   pub within : to ≤ end
 
-body_ahead : (tokens : List PpToken) (pairs : List ℕ) (i : ℕ) → begins_body tokens pairs i ≡ true → i < partner pairs i
+pub body_ahead : (tokens : List PpToken) (pairs : List ℕ) (i : ℕ) → begins_body tokens pairs i ≡ true → i < partner pairs i
 unfolding begins_body
 body_ahead tokens pairs i e = grind arith
 

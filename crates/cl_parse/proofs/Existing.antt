@@ -1,76 +1,51 @@
--- Every list of tokens has a list of items.
-use Rattle.std.proofs.Common.{◌≡◌, ℕ, zero, suc, ◌+◌, ◌-◌, ◌<◌, ◌≤◌, Bool, true, false, List, [], ◌∷◌, ⊎_elim, refl, subst, arith, length}
+-- It can't be that a file has no list of items.
+use Rattle.std.proofs.Common.{◌≡◌, ℕ, zero, suc, ◌+◌, ◌<◌, ◌≤◌, List, [], ◌∷◌, ⊎_elim, refl, arith, length}
 use Rattle.std.proofs.lemmas.Bool.{cases_lt}
 use Rattle.cl_base.specs.declared.token.PpToken.{PpToken}
+use Rattle.cl_tree.specs.Brackets.{bad_extent, brackets}
+use Rattle.cl_tree.specs.Derives.{end}
+use Rattle.cl_tree.specs.Lexemes.{lexemes_to}
+use Rattle.cl_tree.specs.declared.lexeme.Lexeme.{Lexeme}
+use Rattle.cl_tree.specs.declared.scope.Scope.{Scope}
+use Rattle.cl_tree.specs.declared.tree.Tree.{Tree}
 use Rattle.cl_parse.specs.declared.item.Item.{Item}
 use Rattle.cl_parse.specs.declared.item.Item.TheVariants.{Proper, Bad}
-use Rattle.cl_parse.proofs.Within.{declaration_within}
-use Rattle.cl_parse.specs.Items.{EndsBad, IsItem, ItemTiles, ItemsOf, is_declaration, is_semicolon, item_end}
+use Rattle.cl_parse.specs.Items.{IsProper, ItemTiles, ItemsOf, Names, learned}
+use Rattle.cl_parse.proofs.BadEnds.{bad_bounds, bad_end}
+use Rattle.cl_parse.proofs.Bounds.{extent_bounds}
+use Rattle.cl_parse.proofs.Lexed.{to_length}
 
--- the first `;` from a number on, or the end
-record Stops (tokens : List PpToken) (from : ℕ) : Type 0 where
-  at : ℕ
-  low : from ≤ at
-  within : at ≤ length tokens
-  goes : (i : ℕ) → from ≤ i → i < at → is_semicolon tokens i ≡ false
-  ends : at < length tokens → is_semicolon tokens at ≡ true
+module _ (tokens : List PpToken) (pairs : List ℕ) where
+  abbrev Some : Names → List Lexeme → Type 0
+  Some names read = ((items : List Item) → ItemTiles tokens pairs names read items → ⊥) → ⊥
 
-none_to : (tokens : List PpToken) (from at : ℕ) → is_semicolon tokens from ≡ false → ((i : ℕ) → from + 1 ≤ i → i < at → is_semicolon tokens i ≡ false)
-    → (i : ℕ) → from ≤ i → i < at → is_semicolon tokens i ≡ false
-none_to tokens from at e goes i l m =
-    ⊎_elim
-    (λ (k : from < i). goes i (omega arith) m)
-    (λ (k : i ≤ from). let same : from ≡ i = omega arith in subst (λ (j : ℕ). is_semicolon tokens j ≡ false) same e)
-    (cases_lt from i)
+  -- so it is from what was read on, with so many tokens left
+  abbrev Behind : ℕ → Type 0
+  Behind n = (names : Names) (read : List Lexeme) → length tokens ≤ n + length read → length read ≤ length tokens → Some names read
 
-stop_by : (tokens : List PpToken) (from : ℕ) (b : Bool) → from < length tokens → is_semicolon tokens from ≡ b → Stops tokens (from + 1) → Stops tokens from
-stop_by tokens from true l e more = record { at = from; low = omega arith; within = omega arith; goes = λ i m n. absurd (omega arith); ends = λ m. e }
-stop_by tokens from false l e more =
-    let low : from + 1 ≤ more.at = more.low in
-    record { at = more.at; low = omega arith; within = more.within; goes = none_to tokens from more.at e more.goes; ends = more.ends }
+  proper : (n : ℕ) → Behind n → (names : Names) (read : List Lexeme) → length tokens ≤ suc n + length read → length read < length tokens → ((items : List Item) → ItemTiles tokens pairs names read items → ⊥)
+      → (t : Tree) (v : Scope) → IsProper tokens pairs names read t v → ⊥
+  proper n behind names read m l k t v p =
+      let b = extent_bounds tokens pairs (length read) (end t) l p.extent in
+      let x : length read < end t = b.more in
+      let y : end t ≤ length tokens = b.within in
+      let next = lexemes_to names pairs tokens read (end t) in
+      let z : length next ≡ end t = to_length names pairs tokens read (end t) (omega arith) y in
+      behind (learned names next v) next (omega arith) (omega arith) (λ items tiles. k (Proper t ∷ items) (l, v, p, tiles))
 
-stop_from : (tokens : List PpToken) (n from : ℕ) → n + from ≡ length tokens → Stops tokens from
-stop_from tokens zero from e = record { at = from; low = omega arith; within = omega arith; goes = λ i m n. absurd (omega arith); ends = λ m. absurd (omega arith) }
-stop_from tokens (suc n) from e = stop_by tokens from (is_semicolon tokens from) (omega arith) refl (stop_from tokens n (from + 1) (omega arith))
+  more : (n : ℕ) → Behind n → (names : Names) (read : List Lexeme) → length tokens ≤ suc n + length read → length read < length tokens → Some names read
+  more n behind names read m l k =
+      let to = bad_extent tokens pairs (length read) (length tokens) in
+      let b = bad_bounds tokens pairs (length read) (length tokens) to l (bad_end tokens pairs (length read) (length tokens)) in
+      let x : length read < to = b.more in
+      let y : to ≤ length tokens = b.within in
+      let next = lexemes_to names pairs tokens read to in
+      let z : length next ≡ to = to_length names pairs tokens read to (omega arith) y in
+      behind names next (omega arith) (omega arith) (λ items tiles. k (Bad (length read) to ∷ items) (l, record { starts = refl; ends = refl; none = proper n behind names read m l k }, tiles))
 
-bad_end : (tokens : List PpToken) (from : ℕ) → from < length tokens → Stops tokens from → (to : ℕ) × EndsBad tokens from to
-bad_end tokens from l s =
-    let low : from ≤ s.at = s.low in
-    let most : s.at ≤ length tokens = s.within in
-    ⊎_elim
-    (λ (k : s.at < length tokens). (
-      s.at + 1,
-      record {
-        some = omega arith;
-        within = omega arith;
-        first = λ i m n. s.goes i m (omega arith);
-        last = λ i e n. let same : s.at ≡ i = omega arith in subst (λ (j : ℕ). is_semicolon tokens j ≡ true) same (s.ends k);
-      },
-    ))
-    (λ (k : length tokens ≤ s.at). (s.at, record { some = omega arith; within = most; first = λ i m n. s.goes i m (omega arith); last = λ i e n. absurd (omega arith) }))
-    (cases_lt s.at (length tokens))
+  some_tiles : (n : ℕ) → Behind n
+  some_tiles zero names read m w k = k [] (omega arith)
+  some_tiles (suc n) names read m w k = ⊎_elim (λ (l : length read < length tokens). more n (some_tiles n) names read m l k) (λ (l : length tokens ≤ length read). k [] (omega arith)) (cases_lt (length read) (length tokens))
 
-record Some (tokens : List PpToken) (at : ℕ) : Type 0 where
-  item : Item
-  is : IsItem tokens at item
-  more : at < item_end item
-  within : item_end item ≤ length tokens
-
-item_by : (tokens : List PpToken) (n at : ℕ) (b : Bool) → suc n + at ≡ length tokens → is_declaration tokens at ≡ b → Some tokens at
-item_by tokens n at true e d = record { item = Proper at (at + 3); is = (refl, refl, d); more = omega arith; within = declaration_within tokens at d }
-item_by tokens n at false e d =
-    let bad = bad_end tokens at (omega arith) (stop_from tokens (suc n) at e) in
-    record { item = Bad at bad.0; is = (refl, bad.1, d); more = bad.1.some; within = bad.1.within }
-
-some_tiles : (tokens : List PpToken) (most n at : ℕ) → n ≤ most → n + at ≡ length tokens → (items : List Item) × ItemTiles tokens at items
-some_tiles tokens most zero at l e = ([], omega arith)
-some_tiles tokens zero (suc n) at l e = absurd (omega arith)
-some_tiles tokens (suc most) (suc n) at l e =
-    let one = item_by tokens n at (is_declaration tokens at) e refl in
-    let more : at < item_end one.item = one.more in
-    let within : item_end one.item ≤ length tokens = one.within in
-    let rest = some_tiles tokens most (length tokens - item_end one.item) (item_end one.item) (omega arith) (omega arith) in
-    (one.item ∷ rest.0, (omega arith, one.is, rest.1))
-
-pub some_items : (tokens : List PpToken) → (items : List Item) × ItemsOf tokens items
-some_items tokens = some_tiles tokens (length tokens) (length tokens) 0 (omega arith) (omega arith)
+pub some_items : (names : Names) (tokens : List PpToken) → ((items : List Item) → ItemsOf names tokens items → ⊥) → ⊥
+some_items names tokens k = some_tiles tokens (brackets tokens) (length tokens) names [] (omega arith) (omega arith) k

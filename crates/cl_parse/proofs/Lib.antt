@@ -1,7 +1,10 @@
-pub mod Unique
-pub mod Within
-pub mod Existing
 pub mod Depths
 pub mod OneExtent
 pub mod Ending
 pub mod Bounds
+pub mod Lexed
+pub mod Marked
+pub mod BadEnds
+pub mod Unique
+pub mod Existing
+pub mod Read

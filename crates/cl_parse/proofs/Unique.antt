@@ -1,33 +1,45 @@
--- The tokens of a text have one list of items.
-use Rattle.std.proofs.Common.{◌≡◌, ℕ, ◌<◌, ◌≤◌, suc, zero, List, [], ◌∷◌, ⊎_elim, refl, sym, ◌∙◌, subst, arith, length}
-use Rattle.std.proofs.lemmas.Bool.{both_ways, cases_order}
+-- A file has one list of items.
+use Rattle.std.proofs.Common.{◌≡◌, ℕ, List, [], ◌∷◌, refl, sym, ◌∙◌, ap, subst, arith, length}
 use Rattle.cl_base.specs.declared.token.PpToken.{PpToken}
+use Rattle.cl_tree.specs.Brackets.{bad_extent}
+use Rattle.cl_tree.specs.Derives.{External, end}
+use Rattle.cl_tree.specs.Lexemes.{lexemes_to}
+use Rattle.cl_tree.specs.Scopes.{empty}
+use Rattle.cl_tree.specs.declared.lexeme.Lexeme.{Lexeme}
+use Rattle.cl_tree.specs.declared.scope.Scope.{Scope}
+use Rattle.cl_tree.specs.declared.tree.Tree.{Tree}
 use Rattle.cl_parse.specs.declared.item.Item.{Item}
 use Rattle.cl_parse.specs.declared.item.Item.TheVariants.{Proper, Bad}
-use Rattle.cl_parse.specs.Items.{EndsBad, IsItem, ItemTiles, is_semicolon, is_declaration, item_end}
+use Rattle.cl_parse.specs.Items.{IsProper, ItemTiles, Names, learned}
+use Rattle.cl_parse.proofs.OneExtent.{one_extent}
 
-not_shorter : (tokens : List PpToken) (from a b : ℕ) → EndsBad tokens from a → EndsBad tokens from b → a < b → ⊥
-not_shorter tokens from zero b h k l = absurd (omega (arith, h.some))
-not_shorter tokens from (suc a) b h k l =
-    let s : from < suc a = h.some in
-    let w : b ≤ length tokens = k.within in
-    both_ways (is_semicolon tokens a) (k.first a (omega arith) (omega arith)) (h.last a (omega arith) (omega arith))
+-- an external declaration has one tree and one scope after it
+abbrev pub OneExternal : Type 0
+OneExternal = (ts : List Lexeme) (s : Scope) (at : ℕ) (t u : Tree) (w x : Scope) → External ts s at t w → External ts s at u x → (t ≡ u) × (w ≡ x)
 
-one_end : (tokens : List PpToken) (from a b : ℕ) → EndsBad tokens from a → EndsBad tokens from b → a ≡ b
-one_end tokens from a b h k =
-    ⊎_elim (λ e. e) (⊎_elim (λ l. absurd (not_shorter tokens from a b h k l)) (λ l. absurd (not_shorter tokens from b a k h l))) (cases_order a b)
+module _ (one : OneExternal) (tokens : List PpToken) (pairs : List ℕ) where
+  one_proper : (names : Names) (read : List Lexeme) (t u : Tree) (w x : Scope) → IsProper tokens pairs names read t w → IsProper tokens pairs names read u x → (t ≡ u) × (w ≡ x)
+  one_proper names read t u w x a b =
+      let e : end u ≡ end t = one_extent tokens pairs (length read) (end u) (end t) b.extent a.extent in
+      one (lexemes_to names pairs tokens read (end t)) empty (length read) t u w x a.derives (subst (λ (n : ℕ). External (lexemes_to names pairs tokens read n) empty (length read) u x) e b.derives)
 
-one_item : (tokens : List PpToken) (at : ℕ) (x y : Item) → IsItem tokens at x → IsItem tokens at y → x ≡ y
-one_item tokens at (Proper a b) (Proper c d) h k = let e : a ≡ c = h.0 ∙ sym k.0 in let f : b ≡ d = h.1 ∙ sym k.1 in cc
-one_item tokens at (Proper a b) (Bad c d) h k = absurd (both_ways (is_declaration tokens at) k.2 h.2)
-one_item tokens at (Bad a b) (Proper c d) h k = absurd (both_ways (is_declaration tokens at) h.2 k.2)
-one_item tokens at (Bad a b) (Bad c d) h k = let e : a ≡ c = h.0 ∙ sym k.0 in let f : b ≡ d = one_end tokens at b d h.1 k.1 in cc
-
-pub one_list : (tokens : List PpToken) (at : ℕ) (xs ys : List Item) → ItemTiles tokens at xs → ItemTiles tokens at ys → xs ≡ ys
-one_list tokens at [] [] h k = refl
-one_list tokens at [] (y ∷ ys) h k = absurd (omega (arith, k.0))
-one_list tokens at (x ∷ xs) [] h k = absurd (omega (arith, h.0))
-one_list tokens at (x ∷ xs) (y ∷ ys) h k =
-    let e : x ≡ y = one_item tokens at x y h.1 k.1 in
-    let more : xs ≡ ys = one_list tokens (item_end x) xs ys h.2 (subst (λ (t : Item). ItemTiles tokens (item_end t) ys) (sym e) k.2) in
-    cc
+  pub one_list : (names : Names) (read : List Lexeme) (xs ys : List Item) → ItemTiles tokens pairs names read xs → ItemTiles tokens pairs names read ys → xs ≡ ys
+  one_list names read [] [] h k = refl
+  one_list names read [] (Proper u ∷ ys) h k = absurd (omega (arith, h, k.0))
+  one_list names read [] (Bad a b ∷ ys) h k = absurd (omega (arith, h, k.0))
+  one_list names read (Proper t ∷ xs) [] h k = absurd (omega (arith, k, h.0))
+  one_list names read (Bad a b ∷ xs) [] h k = absurd (omega (arith, k, h.0))
+  one_list names read (Proper t ∷ xs) (Proper u ∷ ys) h k =
+      let e = one_proper names read t u h.1 k.1 h.2 k.2 in
+      let rest : ItemTiles tokens pairs (learned names (lexemes_to names pairs tokens read (end t)) h.1) (lexemes_to names pairs tokens read (end t)) ys =
+      subst (λ (v : Scope). ItemTiles tokens pairs (learned names (lexemes_to names pairs tokens read (end t)) v) (lexemes_to names pairs tokens read (end t)) ys) (sym e.1)
+      (subst (λ (v : Tree). ItemTiles tokens pairs (learned names (lexemes_to names pairs tokens read (end v)) k.1) (lexemes_to names pairs tokens read (end v)) ys) (sym e.0) k.3) in
+      let more : xs ≡ ys = one_list (learned names (lexemes_to names pairs tokens read (end t)) h.1) (lexemes_to names pairs tokens read (end t)) xs ys h.3 rest in
+      ap (λ (v : Tree). Proper v ∷ xs) e.0 ∙ ap (λ (zs : List Item). Proper u ∷ zs) more
+  one_list names read (Proper t ∷ xs) (Bad a b ∷ ys) h k = absurd (k.1.none t h.1 h.2)
+  one_list names read (Bad a b ∷ xs) (Proper u ∷ ys) h k = absurd (h.1.none u k.1 k.2)
+  one_list names read (Bad a b ∷ xs) (Bad c d ∷ ys) h k =
+      let e : a ≡ c = h.1.starts ∙ sym k.1.starts in
+      let f : b ≡ d = h.1.ends ∙ ap (λ (n : ℕ). bad_extent tokens pairs n (length tokens)) e ∙ sym k.1.ends in
+      let more : xs ≡ ys = one_list names (lexemes_to names pairs tokens read b) xs ys h.2 (subst (λ (n : ℕ). ItemTiles tokens pairs names (lexemes_to names pairs tokens read n) ys) (sym f) k.2) in
+      ap (λ (n : ℕ). Bad n b ∷ xs) e ∙ ap (λ (n : ℕ). Bad c n ∷ xs) f ∙ ap (λ (zs : List Item). Bad c d ∷ zs) more

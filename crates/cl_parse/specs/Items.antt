@@ -1,48 +1,49 @@
--- Which items a list of tokens has.
-use Rattle.std.specs.Prelude.{◌≡◌, ℕ, ◌<◌, ◌≤◌, ◌+◌, List, [], ◌∷◌, length, Bool, true, false, not, ◌&&◌, nat_eq, codes}
-use Rattle.std.specs.Cmp.Lexicographic.{pointwise}
+-- Which items a file has (N1570 6.9).
+use Rattle.std.specs.Prelude.{◌≡◌, ℕ, ◌<◌, List, [], ◌∷◌, length, Bool, false}
 use Rattle.cl_base.specs.declared.token.PpToken.{PpToken}
-use Rattle.cl_parse.specs.Tokens.{is_ident_at, text_at}
+use Rattle.cl_tree.specs.Brackets.{bad_extent, brackets}
+use Rattle.cl_tree.specs.Derives.{External, end}
+use Rattle.cl_tree.specs.Lexemes.{lexemes_to}
+use Rattle.cl_tree.specs.Scopes.{empty, known}
+use Rattle.cl_tree.specs.declared.lexeme.Lexeme.{Lexeme}
+use Rattle.cl_tree.specs.declared.scope.Scope.{Scope}
+use Rattle.cl_tree.specs.declared.tree.Tree.{Tree}
+use Rattle.cl_parse.specs.Extents.{Extent}
 use Rattle.cl_parse.specs.declared.item.Item.{Item}
 use Rattle.cl_parse.specs.declared.item.Item.TheVariants.{Proper, Bad}
-use Rattle.cl_parse.specs.Keywords.{is_keyword}
 
--- the word `int`
-abbrev pub is_int : List PpToken → ℕ → Bool
-is_int tokens at = pointwise nat_eq (text_at tokens at) (codes "int")
+-- which names are typedef names
+abbrev pub Names : Type 0
+Names = List ℕ → Bool
 
-abbrev pub is_semicolon : List PpToken → ℕ → Bool
-is_semicolon tokens at = pointwise nat_eq (text_at tokens at) (codes ";")
+abbrev pub no_names : Names
+no_names name = false
 
--- a name that is no keyword
-abbrev pub is_free_name : List PpToken → ℕ → Bool
-is_free_name tokens at = is_ident_at tokens at && not (is_keyword (text_at tokens at))
+-- an item that begins behind what was read of a file is proper: an external declaration derives on just its extent
+pub record IsProper (tokens : List PpToken) (pairs : List ℕ) (names : Names) (read : List Lexeme) (tree : Tree) (after : Scope) : Type 0 where
+  pub extent : Extent tokens pairs (length read) (end tree)
+  pub derives : External (lexemes_to names pairs tokens read (end tree)) empty (length read) tree after
 
--- whether a declaration begins with this token: `int`, a name and `;`
-unfoldable pub is_declaration : List PpToken → ℕ → Bool
-is_declaration tokens at = is_int tokens at && is_free_name tokens (at + 1) && is_semicolon tokens (at + 2)
+-- it is bad: none derives there, and it goes past its first `;` or its first brace group
+pub record IsBad (tokens : List PpToken) (pairs : List ℕ) (names : Names) (read : List Lexeme) (from to : ℕ) : Type 0 where
+  pub starts : from ≡ length read
+  pub ends : to ≡ bad_extent tokens pairs from (length tokens)
+  pub none : (tree : Tree) (after : Scope) → IsProper tokens pairs names read tree after → ⊥
 
--- a bad item ends past the first `;` from its start, or with the tokens where there is none
-pub record EndsBad (tokens : List PpToken) (from to : ℕ) : Type 0 where
-  pub some : from < to
-  pub within : to ≤ length tokens
-  pub first : (i : ℕ) → from ≤ i → i + 1 < to → is_semicolon tokens i ≡ false
-  pub last : (i : ℕ) → i + 1 ≡ to → to < length tokens → is_semicolon tokens i ≡ true
+-- which names are typedef names behind an item: what it leaves declared says so, else what was before it
+abbrev pub learned : Names → List Lexeme → Scope → Names
+learned names read after name = known read after.changes (names name) name
 
--- the item that begins with this token
-abbrev pub IsItem : List PpToken → ℕ → Item → Type 0
-IsItem tokens at (Proper from to) = (from ≡ at) × (to ≡ at + 3) × (is_declaration tokens at ≡ true)
-IsItem tokens at (Bad from to) = (from ≡ at) × EndsBad tokens at to × (is_declaration tokens at ≡ false)
+-- the items from a token on, one behind the other up to the last token. The tokens before are read; the names are typedef
+-- names before the next one, and a bad item declares nothing
+abbrev pub ItemTiles : List PpToken → List ℕ → Names → List Lexeme → List Item → Type 0
+ItemTiles tokens pairs names read [] = length read ≡ length tokens
+ItemTiles tokens pairs names read (Proper tree ∷ items) =
+    (length read < length tokens) × (after : Scope) × IsProper tokens pairs names read tree after
+    × ItemTiles tokens pairs (learned names (lexemes_to names pairs tokens read (end tree)) after) (lexemes_to names pairs tokens read (end tree)) items
+ItemTiles tokens pairs names read (Bad from to ∷ items) =
+    (length read < length tokens) × IsBad tokens pairs names read from to × ItemTiles tokens pairs names (lexemes_to names pairs tokens read to) items
 
-abbrev pub item_end : Item → ℕ
-item_end (Proper from to) = to
-item_end (Bad from to) = to
-
--- the items from a token on: one follows the other up to the last token
-abbrev pub ItemTiles : List PpToken → ℕ → List Item → Type 0
-ItemTiles tokens at [] = at ≡ length tokens
-ItemTiles tokens at (item ∷ items) = (at < length tokens) × IsItem tokens at item × ItemTiles tokens (item_end item) items
-
--- the items of these tokens
-abbrev pub ItemsOf : List PpToken → List Item → Type 0
-ItemsOf tokens items = ItemTiles tokens 0 items
+-- the items of these tokens, where these names are typedef names before the first one
+abbrev pub ItemsOf : Names → List PpToken → List Item → Type 0
+ItemsOf names tokens items = ItemTiles tokens (brackets tokens) names [] items

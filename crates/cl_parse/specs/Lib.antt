@@ -1,5 +1,5 @@
-pub mod Keywords
 pub mod Tokens
-pub mod Items
 pub mod Extents
+pub mod Items
 pub mod Whole
+pub mod code

@@ -28,14 +28,14 @@ pub(crate) fn partner_at(pairs: &[u32], at: usize) -> usize
 }
 
 /// Whether the token at a number is `;`.
-fn is_semicolon(tokens: &[PpToken], at: usize) -> bool
+pub(crate) fn is_semicolon(tokens: &[PpToken], at: usize) -> bool
     ensures { result ≡ e.is_semicolon tokens.now at }
 {
     spells_at(tokens, at, b";".as_slice())
 }
 
 /// Whether the token at a number is `=`.
-fn is_equal(tokens: &[PpToken], at: usize) -> bool
+pub(crate) fn is_equal(tokens: &[PpToken], at: usize) -> bool
     ensures { result ≡ e.is_equal tokens.now at }
 {
     spells_at(tokens, at, b"=".as_slice())
@@ -59,7 +59,7 @@ pub(crate) fn brace_at(tokens: &[PpToken], at: usize) -> bool
 
 /// Whether a brace group begins there that directly follows `)` or `]`.
 #[tactic(auto, unfolding(crate::specs::Extents::begins_body))]
-fn begins_body(tokens: &[PpToken], pairs: &[u32], at: usize) -> bool
+pub(crate) fn begins_body(tokens: &[PpToken], pairs: &[u32], at: usize) -> bool
     ensures { result ≡ e.begins_body tokens.now pairs.now at }
 {
     brace_at(tokens, at) && at < partner_at(pairs, at) && is_closing(tokens, at.saturating_sub(1))
@@ -79,7 +79,7 @@ fn either(a: bool, b: bool) -> bool
 }
 
 /// What stands after a token, or after the bracket group that it begins.
-fn past(pairs: &[u32], at: usize) -> usize
+pub(crate) fn past(pairs: &[u32], at: usize) -> usize
     requires room { at < 2 ^ 32 }
     ensures { result ≡ e.past pairs.now at }
 {

@@ -1,10 +1,13 @@
-//! What a text is made of.
+//! What a file is made of.
 
-/// A part of a text's tokens, by their numbers from 0: from the first one up to, and without, the second one.
-#[derive(Clone, Copy)]
+use cl_tree::Tree;
+
+/// An item of a file (N1570 6.9), by the numbers of its tokens from 0.
+#[derive(Drop)]
 pub enum Item {
-    /// A declaration: `int`, a name that is no keyword, and `;`.
-    Proper(u32, u32),
-    /// What is no declaration: all up to the next `;` and with it, or up to the text's end.
+    /// An external declaration, with its tree, which stands over just the item's tokens.
+    Proper(Tree),
+    /// What is none: from the first token up to, and without, the second one. It goes past the first `;` outside its brackets
+    /// or the first brace group there, whichever ends first, or up to the end of the tokens.
     Bad(u32, u32),
 }

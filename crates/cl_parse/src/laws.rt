@@ -3,14 +3,18 @@
 ghost use Rattle.std.specs.Prelude.{◌≡◌, List};
 ghost use Rattle.cl_base.specs.declared.token.PpToken.{PpToken};
 ghost use Rattle.cl_parse.specs.declared.item.Item.{Item};
-ghost use Rattle.cl_parse.specs.Items.{ItemsOf};
+ghost use Rattle.cl_parse.specs.Items.{ItemsOf, Names};
 
-/// A list of tokens has one list of items.
+use cl_expr::one_tree;
+
+/// A list of tokens has one list of items, whatever names are typedef names before it.
 pub fn one_item_list()
-    ensures { (tokens : List PpToken) (xs ys : List Item) → ItemsOf tokens xs → ItemsOf tokens ys → xs ≡ ys }
-{}
+    ensures { (names : Names) (tokens : List PpToken) (xs ys : List Item) → ItemsOf names tokens xs → ItemsOf names tokens ys → xs ≡ ys }
+{
+    one_tree();
+}
 
-/// Every list of tokens has a list of items.
-pub fn some_items()
-    ensures { (tokens : List PpToken) → (items : List Item) × ItemsOf tokens items }
+/// It can't be that a list of tokens has no list of items.
+pub fn some_item_list()
+    ensures { (names : Names) (tokens : List PpToken) → ((items : List Item) → ItemsOf names tokens items → ⊥) → ⊥ }
 {}

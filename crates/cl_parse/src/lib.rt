@@ -1,17 +1,16 @@
-//! The items of a C text: its declarations, and what is none.
+//! The items of a file, and whether a file ends whole.
 #![tactic(auto)]
 
 mod extent;
 mod item;
-mod keywords;
 mod laws;
+mod marks;
 mod parse;
 mod token;
 mod whole;
 
 pub use item::Item;
-pub use keywords::is_keyword;
-pub use laws::{one_item_list, some_items};
+pub use laws::{one_item_list, some_item_list};
 pub use parse::items;
 pub use token::{span_at, text_at};
 pub use whole::ends_whole;

@@ -1,99 +1,244 @@
-//! Cuts a list of tokens into its items.
+//! Reads the items of a file.
 
-ghost use Rattle.std.specs.Prelude.{◌≡◌, ◌<◌, ◌≤◌, ◌+◌, ◌^◌, length, IfOk, true};
-ghost use Rattle.cl_parse.specs.Items.{EndsBad, IsItem, ItemsOf, is_declaration, is_free_name, is_int, is_semicolon, item_end};
+ghost use Rattle.std.specs.Prelude.{◌≡◌, ◌<◌, ◌≤◌, ◌^◌, ◌-◌, [], Some, length, take, IfOk, IfSome};
+ghost use Rattle.cl_tree.specs.Brackets.{bad_extent};
+ghost use Rattle.cl_tree.specs.Derives.{External, end};
+ghost use Rattle.cl_tree.specs.Scopes.{empty};
+ghost use Rattle.cl_tree.specs.Sets.{has};
+ghost use Rattle.cl_tree.specs.declared.scope.Scope.{Scope as TheScope};
+ghost use Rattle.cl_tree.specs.declared.tree.Tree.{Tree as TheTree};
+ghost use Rattle.cl_parse.specs.Extents.{Extent};
+ghost use Rattle.cl_parse.specs.Items.{IsProper, ItemTiles, ItemsOf};
+ghost use Rattle.cl_parse.specs.code.Marks.{AreMarks, Ends};
+ghost use Rattle.cl_parse.specs.code.Reading.{IsExtended, IsNext, IsSettled, Reads, before};
 
+use crate::extent::past_stop;
 use crate::item::Item;
-use crate::keywords::is_keyword;
-use crate::token::{is_ident_at, text_at};
+use crate::marks::Marks;
 use cl_base::{List, Mem, Memory, PpToken};
+use cl_expr::{Parsed, parse_external};
+use cl_tree::{Change, Lexeme, NameSet, Scope, bad_extent, brackets, learned, lexemes_to};
 use std::alloc::Global;
 
-/// The most tokens that have their numbers: 2^32 - 1.
-const MOST: usize = 0xffff_ffff;
+/// The most tokens: 2^32 - 5.
+const MOST: usize = 0xffff_fffb;
 
-/// The items of these tokens, in order. 2^32 tokens or more are want of memory.
-pub fn items(alloc: Global, tokens: &[PpToken]) -> Mem<List<Item>>
-    ensures { IfOk result (λ items. ItemsOf tokens.now items) }
+/// How far a file has been read: which names are typedef names before the token `at`, the tokens up to some place as the
+/// grammar reads them, those from `at` on with these names, and where the next item ends.
+#[derive(Drop)]
+pub(crate) struct Reading {
+    pub(crate) names: NameSet,
+    pub(crate) ahead: List<Lexeme>,
+    pub(crate) at: usize,
+    pub(crate) marks: Marks,
+}
+
+/// A next item, and how far the file is read behind it.
+#[derive(Drop)]
+pub(crate) struct Next {
+    pub(crate) item: Item,
+    pub(crate) reading: Reading,
+}
+
+/// The items of these tokens, in order, where these names are typedef names before the first. 2^32 - 4 tokens or more are
+/// want of memory.
+pub fn items(alloc: Global, tokens: &[PpToken], typedefs: NameSet) -> Mem<List<Item>>
+    ensures { IfOk result (ItemsOf (has typedefs) tokens.now) }
 {
     if tokens.len() > MOST {
         return Err(Memory);
     }
+    let pairs = brackets(alloc, tokens)?;
+    let items = tiles(alloc, tokens, &pairs, typedefs)?;
+    Ok(items)
+}
+
+/// The same, where these are the partners of the brackets.
+fn tiles(alloc: Global, tokens: &[PpToken], pairs: &List<u32>, typedefs: NameSet) -> Mem<List<Item>>
+    requires room { length tokens.now < 2 ^ 32 - 4 }
+    ensures { IfOk result (ItemTiles tokens.now pairs.now (has typedefs) []) }
+{
     let mut items = List::new(alloc);
-    let mut at = 0;
-    while at < tokens.len() {
-        let item = next_item(tokens, at);
-        items.push(item)?;
-        at = item_end(item);
+    let mut reading = Reading {
+        names: typedefs,
+        ahead: List::new(alloc),
+        at: 0,
+        marks: Marks::new(tokens, pairs.as_slice(), 0),
+    };
+    while reading.at < tokens.len() {
+        let next = next_item(alloc, tokens, pairs, reading)?;
+        items.push(next.item)?;
+        reading = next.reading;
     }
     Ok(items)
 }
 
-/// Where the item ends.
-fn item_end(item: Item) -> usize
-    ensures { result ≡ item_end item }
+/// The next item.
+fn next_item(alloc: Global, tokens: &[PpToken], pairs: &List<u32>, reading: Reading) -> Mem<Next>
+    requires room { length tokens.now < 2 ^ 32 - 4 }
+    requires some { reading.at < length tokens.now }
+    requires reads { Reads tokens.now pairs.now reading }
+    ensures { IfOk result (IsNext tokens.now pairs.now reading) }
 {
-    match item {
-        Item::Proper(_, to) => to as usize,
-        Item::Bad(_, to) => to as usize,
+    let partners = pairs.as_slice();
+    let to = extent_end(tokens, partners, reading.marks);
+    let read = extended(alloc, tokens, partners, reading, to)?;
+    let found = external(alloc, &read, to)?;
+    match found {
+        Some(parsed) => {
+            let next = proper(alloc, tokens, partners, read, parsed, to)?;
+            Ok(next)
+        }
+        None => {
+            let next = passed(alloc, tokens, pairs, read)?;
+            Ok(next)
+        }
     }
 }
 
-/// The item that begins with this token.
-fn next_item(tokens: &[PpToken], at: usize) -> Item
-    requires room { length tokens.now < 2 ^ 32 }
-    requires within { at < length tokens.now }
-    ensures item { IsItem tokens.now at result }
-    ensures within { (at < item_end result) × (item_end result ≤ length tokens.now) }
+/// The end of the extent of the item that begins where the marks do.
+fn extent_end(tokens: &[PpToken], pairs: &[u32], marks: Marks) -> usize
+    requires room { length tokens.now < 2 ^ 32 - 4 }
+    requires some { marks.from < length tokens.now }
+    requires marks { AreMarks tokens.now pairs.now marks }
+    ensures extent { Extent tokens.now pairs.now marks.from result }
+    ensures more { marks.from < result }
+    ensures within { result ≤ length tokens.now }
+    ensures depth { Ends pairs.now (length tokens.now) marks.from result }
 {
-    if is_declaration(tokens, at) {
-        Item::Proper(at as u32, (at + 3) as u32)
-    } else {
-        Item::Bad(at as u32, past_bad(tokens, at) as u32)
+    let stop = marks.stop(tokens, pairs);
+    past_stop(tokens, pairs, stop)
+}
+
+/// The external declaration that the tokens from the next item on, up to one, derive as.
+fn external(alloc: Global, reading: &Reading, to: usize) -> Mem<Option<Parsed>>
+    requires at { reading.now.at < 2 ^ 32 }
+    requires within { to ≤ length reading.now.ahead }
+    ensures found { IfOk result (λ it. IfSome it (λ r. External (take to reading.now.ahead) empty reading.now.at r.tree r.scope)) }
+    ensures only { IfOk result (λ it. (t : TheTree) (w : TheScope) → External (take to reading.now.ahead) empty reading.now.at t w → it ≡ Some (record { tree = t; scope = w })) }
+{
+    let lexemes = &reading.ahead.as_slice()[..to];
+    let found = parse_external(alloc, lexemes, &Scope::new(alloc), reading.at as u32)?;
+    Ok(found)
+}
+
+/// The same, with the tokens read at least up to one.
+fn extended(
+    alloc: Global,
+    tokens: &[PpToken],
+    pairs: &[u32],
+    reading: Reading,
+    to: usize,
+) -> Mem<Reading>
+    requires room { length tokens.now < 2 ^ 32 - 4 }
+    requires within { to ≤ length tokens.now }
+    requires reads { Reads tokens.now pairs.now reading }
+    ensures { IfOk result (IsExtended tokens.now pairs.now reading to) }
+{
+    if reading.ahead.len() >= to {
+        return Ok(reading);
     }
+    let names = reading.names;
+    let ahead = lexemes_to(alloc, reading.ahead, tokens, pairs, &names, to)?;
+    Ok(Reading {
+        names,
+        ahead,
+        at: reading.at,
+        marks: reading.marks,
+    })
 }
 
-/// Where the bad item ends that begins with this token.
-fn past_bad(tokens: &[PpToken], at: usize) -> usize
-    requires room { length tokens.now < 2 ^ 32 }
-    requires within { at < length tokens.now }
-    ensures { EndsBad tokens.now at result }
+/// A proper item, with its tree and what is declared behind it.
+fn proper(
+    alloc: Global,
+    tokens: &[PpToken],
+    pairs: &[u32],
+    reading: Reading,
+    parsed: Parsed,
+    to: usize,
+) -> Mem<Next>
+    requires room { length tokens.now < 2 ^ 32 - 4 }
+    requires reads { Reads tokens.now pairs.now reading }
+    requires is { IsProper tokens.now pairs.now (has reading.names) (before reading) parsed.tree parsed.scope }
+    requires within { to ≤ length reading.ahead }
+    requires end { end parsed.tree ≡ to }
+    requires some { reading.at < to }
+    requires depth { Ends pairs.now (length tokens.now) reading.at to }
+    ensures { IfOk result (IsNext tokens.now pairs.now reading) }
 {
-    let mut last = at;
-    while last < tokens.len() && !is_semicolon(tokens, last) {
-        last += 1;
+    let marks = reading.marks.moved(tokens, pairs, to);
+    let Parsed { tree, scope } = parsed;
+    let changes = scope.changes.as_slice();
+    let reading = settled(alloc, reading.names, reading.ahead, changes, to, marks)?;
+    Ok(Next {
+        item: Item::Proper(tree),
+        reading,
+    })
+}
+
+/// What is read behind a proper item. Where it changes no names, the tokens ahead are as they were.
+fn settled(
+    alloc: Global,
+    names: NameSet,
+    ahead: List<Lexeme>,
+    changes: &[Change],
+    to: usize,
+    marks: Marks,
+) -> Mem<Reading>
+    requires within { to ≤ length ahead }
+    ensures { IfOk result (IsSettled names ahead changes.now to marks) }
+{
+    if changes.is_empty() {
+        return Ok(Reading {
+            names,
+            ahead,
+            at: to,
+            marks,
+        });
     }
-    if last < tokens.len() { last + 1 } else { last }
+    let mut read = ahead;
+    read.truncate(to);
+    let names = learned(alloc, names, read.as_slice(), changes)?;
+    Ok(Reading {
+        names,
+        ahead: read,
+        at: to,
+        marks,
+    })
 }
 
-/// Whether a declaration begins with this token.
-#[tactic(auto, unfolding(crate::specs::Items::is_declaration))]
-fn is_declaration(tokens: &[PpToken], at: usize) -> bool
-    requires room { at < 2 ^ 32 }
-    ensures value { result ≡ is_declaration tokens.now at }
-    ensures within { result ≡ true → at + 3 ≤ length tokens.now }
+/// A bad item.
+fn passed(alloc: Global, tokens: &[PpToken], pairs: &List<u32>, reading: Reading) -> Mem<Next>
+    requires room { length tokens.now < 2 ^ 32 - 4 }
+    requires some { reading.at < length tokens.now }
+    requires reads { Reads tokens.now pairs.now reading }
+    requires none { (t : TheTree) (w : TheScope) → IsProper tokens.now pairs.now (has reading.names) (before reading) t w → ⊥ }
+    ensures { IfOk result (IsNext tokens.now pairs.now reading) }
 {
-    is_int(tokens, at) && is_free_name(tokens, at + 1) && is_semicolon(tokens, at + 2)
+    let to = bad_extent(tokens, pairs, reading.at as u32, tokens.len() as u32);
+    let partners = pairs.as_slice();
+    let read = extended(alloc, tokens, partners, reading, to as usize)?;
+    Ok(bad(tokens, partners, read, to))
 }
 
-/// Whether this token is the word `int`.
-fn is_int(tokens: &[PpToken], at: usize) -> bool
-    ensures { result ≡ is_int tokens.now at }
+/// A bad item that ends there.
+fn bad(tokens: &[PpToken], pairs: &[u32], reading: Reading, to: u32) -> Next
+    requires room { length tokens.now < 2 ^ 32 - 4 }
+    requires some { reading.at < length tokens.now }
+    requires reads { Reads tokens.now pairs.now reading }
+    requires none { (t : TheTree) (w : TheScope) → IsProper tokens.now pairs.now (has reading.names) (before reading) t w → ⊥ }
+    requires end { to ≡ bad_extent tokens.now pairs.now reading.at (length tokens.now) }
+    requires ahead { to ≤ length reading.ahead }
+    ensures { IsNext tokens.now pairs.now reading result }
 {
-    text_at(tokens, at) == b"int".as_slice()
-}
-
-/// Whether this token is a name that is no keyword.
-fn is_free_name(tokens: &[PpToken], at: usize) -> bool
-    ensures { result ≡ is_free_name tokens.now at }
-{
-    is_ident_at(tokens, at) && !is_keyword(text_at(tokens, at))
-}
-
-/// Whether this token is a `;`.
-fn is_semicolon(tokens: &[PpToken], at: usize) -> bool
-    ensures value { result ≡ is_semicolon tokens.now at }
-    ensures within { result ≡ true → at < length tokens.now }
-{
-    text_at(tokens, at) == b";".as_slice()
+    let marks = reading.marks.moved(tokens, pairs, to as usize);
+    Next {
+        item: Item::Bad(reading.at as u32, to),
+        reading: Reading {
+            names: reading.names,
+            ahead: reading.ahead,
+            at: to as usize,
+            marks,
+        },
+    }
 }

@@ -1,12 +1,11 @@
 -- What was found is the query's answer, or the header that it needs.
-use Rattle.std.proofs.Common.{◌≡◌, ◌≢◌, ℕ, zero, suc, ◌-◌, Bool, true, false, List, [], ◌∷◌, ◌++◌, Option, Some, None, refl, sym, ap, subst, ◌∙◌, length, map, inl, inr, ◌<◌, arith}
-use Rattle.std.specs.Prelude.{if◌then◌else◌, slice_get, unwrap_or, MatchOption, ◌⊎◌}
+use Rattle.std.proofs.Common.{◌≡◌, ◌≢◌, ℕ, zero, suc, ◌-◌, Bool, true, false, List, [], ◌∷◌, Option, Some, None, refl, sym, ap, subst, ◌∙◌, length, map, ◌<◌, arith}
+use Rattle.std.specs.Prelude.{if◌then◌else◌, slice_get, unwrap_or, MatchOption}
 use Rattle.std.specs.List.{AllByRecursion}
 use Rattle.std.specs.Map.{lookup}
 use Rattle.std.specs.Ordering.{nat_cmp}
 use Rattle.std.specs.Cmp.Lexicographic.{slice_cmp}
 use Rattle.std.specs.BTreeMap.{is_at}
-use Rattle.cl_base.specs.declared.answer.Symbol.{Symbol}
 use Rattle.cl_base.specs.declared.answer.Answer.{Answer}
 use Rattle.cl_base.specs.declared.answer.Answer.TheVariants.{Symbols as Listed}
 use Rattle.cl_base.specs.declared.config.Settings.{Settings}
@@ -33,10 +32,10 @@ use Rattle.cl_headers.specs.declared.dep.Dep.{Dep}
 use Rattle.cl_query.specs.AnswerOf.{AnswerOf, NeedsOf, answer_of_symbols, needs_of_symbols}
 use Rattle.cl_base.specs.declared.token.PpToken.{PpToken}
 use Rattle.cl_parse.specs.declared.item.Item.{Item}
-use Rattle.cl_parse.specs.Items.{ItemsOf}
+use Rattle.cl_parse.specs.Items.{ItemsOf, no_names}
 use Rattle.cl_query.specs.Symbols.{symbols_in}
 use Rattle.cl_query.specs.Finding.{FindsOver, IsFoundBy, dep_in}
-use Rattle.cl_query.specs.Seen.{Agrees, says}
+use Rattle.cl_query.specs.Seen.{Agrees}
 use Rattle.cl_query.specs.Unknowns.{IsUnknown}
 
 pub only_symbols : (kind : Query) → kind ≡ Symbols
@@ -153,9 +152,8 @@ module _ (config : Settings) (headers : Headers) (path text : List ℕ) (first :
 
 -- ---- every query comes to something
 
-pub some_by : ((tokens : List PpToken) → (items : List Item) × ItemsOf tokens items) → (config : Settings) (headers : Headers) (path text : List ℕ) (answer : PpAnswer) → Preprocesses config (known_of headers) path text answer
-    → ((x : Answer) × AnswerOf Symbols config headers path text x) ⊎ ((needed : List ℕ) × NeedsOf Symbols config headers path text needed)
-some_by some config headers path text (pp.Done done) p =
-    let parsed = some done.tokens in
-    inl (Listed (symbols_in text done.tokens parsed.0), answer_of_symbols config headers path text done parsed.0 (symbols_in text done.tokens parsed.0) p parsed.1 refl)
-some_by some config headers path text (pp.Need needed) p = inr (needed, needs_of_symbols config headers path text needed p)
+pub some_by : ((tokens : List PpToken) → ((items : List Item) → ItemsOf no_names tokens items → ⊥) → ⊥) → (config : Settings) (headers : Headers) (path text : List ℕ) (answer : PpAnswer) → Preprocesses config (known_of headers) path text answer
+    → ((x : Answer) → AnswerOf Symbols config headers path text x → ⊥) → ((needed : List ℕ) → NeedsOf Symbols config headers path text needed → ⊥) → ⊥
+some_by some config headers path text (pp.Done done) p k m =
+    some done.tokens (λ items parses. k (Listed (symbols_in text done.tokens items)) (answer_of_symbols config headers path text done items (symbols_in text done.tokens items) p parses refl))
+some_by some config headers path text (pp.Need needed) p k m = m needed (needs_of_symbols config headers path text needed p)

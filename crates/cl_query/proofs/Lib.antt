@@ -1,3 +1,2 @@
-mod Places
 mod Found
-mod Listed
+pub mod Placing

@@ -14,7 +14,7 @@ use Rattle.cl_pp.specs.declared.done.PpAnswer.TheVariants as answer
 use Rattle.cl_pp.specs.Preprocessing.{Preprocesses}
 use Rattle.cl_base.specs.declared.headers.Known.{Known}
 use Rattle.cl_parse.specs.declared.item.Item.{Item}
-use Rattle.cl_parse.specs.Items.{ItemsOf}
+use Rattle.cl_parse.specs.Items.{ItemsOf, no_names}
 use Rattle.cl_base.specs.declared.query.Query.{Query}
 use Rattle.cl_base.specs.declared.query.Query.TheVariants.{Symbols}
 use Rattle.cl_base.specs.declared.config.Settings.{Settings}
@@ -28,7 +28,7 @@ pub record AreSymbolsOf (config : Settings) (headers : Headers) (path text : Lis
   pub done : PpDone
   pub items : List Item
   pub preprocessed : Preprocesses config (known_of headers) path text (answer.Done done)
-  pub parses : ItemsOf done.tokens items
+  pub parses : ItemsOf no_names done.tokens items
   pub listed : symbols ≡ symbols_in text done.tokens items
 
 -- the answer of a query about the text at a path, under these settings and with these headers
@@ -50,7 +50,7 @@ unfolding NeedsOf
 NeedsOf-prop Symbols config headers path text needed = ∥∥₁_prop
 
 pub answer_of_symbols : (config : Settings) (headers : Headers) (path text : List ℕ) (done : PpDone) (items : List Item) (symbols : List Symbol)
-    → Preprocesses config (known_of headers) path text (answer.Done done) → ItemsOf done.tokens items → symbols ≡ symbols_in text done.tokens items → AnswerOf Symbols config headers path text (Listed symbols)
+    → Preprocesses config (known_of headers) path text (answer.Done done) → ItemsOf no_names done.tokens items → symbols ≡ symbols_in text done.tokens items → AnswerOf Symbols config headers path text (Listed symbols)
 unfolding AnswerOf
 answer_of_symbols config headers path text done items symbols preprocessed parses listed =
     ∣ record { done = done; items = items; preprocessed = preprocessed; parses = parses; listed = listed } ∣₁
@@ -66,11 +66,11 @@ made_or other (answer.Need path) = other
 
 -- where a text comes to one answer of preprocessing, and its tokens have one list of items, it has one list of symbols
 module _ (one_done : (config : Settings) (known : List ℕ → Known) (path text : List ℕ) (x y : PpAnswer) → Preprocesses config known path text x → Preprocesses config known path text y → x ≡ y)
-    (one_parse : (tokens : List PpToken) (xs ys : List Item) → ItemsOf tokens xs → ItemsOf tokens ys → xs ≡ ys) where
+    (one_parse : (tokens : List PpToken) (xs ys : List Item) → ItemsOf no_names tokens xs → ItemsOf no_names tokens ys → xs ≡ ys) where
   one_list : (config : Settings) (headers : Headers) (path text : List ℕ) (xs ys : List Symbol) → AreSymbolsOf config headers path text xs → AreSymbolsOf config headers path text ys → xs ≡ ys
   one_list config headers path text xs ys a b =
       let done : a.done ≡ b.done = ap (made_or a.done) (one_done config (known_of headers) path text (answer.Done a.done) (answer.Done b.done) a.preprocessed b.preprocessed) in
-      let items : a.items ≡ b.items = one_parse b.done.tokens a.items b.items (subst (λ (d : PpDone). ItemsOf d.tokens a.items) done a.parses) b.parses in
+      let items : a.items ≡ b.items = one_parse b.done.tokens a.items b.items (subst (λ (d : PpDone). ItemsOf no_names d.tokens a.items) done a.parses) b.parses in
       a.listed ∙ ap (λ (d : PpDone). symbols_in text d.tokens a.items) done ∙ ap (symbols_in text b.done.tokens) items ∙ sym b.listed
 
   pub one_answer_by : (kind : Query) (config : Settings) (headers : Headers) (path text : List ℕ) (x y : Answer) → AnswerOf kind config headers path text x → AnswerOf kind config headers path text y → x ≡ y

@@ -1,6 +1,5 @@
 -- What work on a job finds.
 use Rattle.std.specs.Prelude.{◌≡◌, ℕ, List}
-use Rattle.cl_base.specs.declared.answer.Answer.{Answer}
 use Rattle.cl_base.specs.declared.answer.Answer.TheVariants.{Symbols as Listed}
 use Rattle.cl_base.specs.declared.answer.Symbol.{Symbol}
 use Rattle.cl_base.specs.declared.token.PpToken.{PpToken}
@@ -8,7 +7,7 @@ use Rattle.cl_base.specs.declared.config.Settings.{Settings}
 use Rattle.cl_base.specs.declared.query.Query.{Query}
 use Rattle.cl_headers.specs.Headers.{Headers}
 use Rattle.cl_parse.specs.declared.item.Item.{Item}
-use Rattle.cl_parse.specs.Items.{ItemsOf}
+use Rattle.cl_parse.specs.Items.{ItemsOf, no_names}
 use Rattle.cl_pp.specs.declared.done.PpAnswer.{PpAnswer}
 use Rattle.cl_pp.specs.declared.done.PpAnswer.TheVariants as pp
 use Rattle.cl_query.specs.declared.answers.Found.{Found}
@@ -25,7 +24,7 @@ dep_in headers path = record { path = path; known = says headers path }
 
 pub record IsListed (text : List ℕ) (tokens : List PpToken) (symbols : List Symbol) : Type 0 where
   pub items : List Item
-  pub parses : ItemsOf tokens items
+  pub parses : ItemsOf no_names tokens items
   pub listed : symbols ≡ symbols_in text tokens items
 
 abbrev pub IsFoundBy : List ℕ → PpAnswer → List Dep → Found → Type 0

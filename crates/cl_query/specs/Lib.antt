@@ -1,8 +1,8 @@
 pub mod Symbols
-pub mod Walking
 pub mod AnswerOf
 pub mod Unknowns
 pub mod Seen
 pub mod Over
 pub mod Worked
 pub mod Finding
+pub mod code

@@ -2,7 +2,6 @@
 
 ghost use Rattle.std.specs.Prelude.{◌≡◌, ◌<◌, ◌^◌, length, map, IfOk, OnOk};
 ghost use Rattle.cl_headers.specs.Maps.{IsHeaderMap};
-ghost use Rattle.cl_pp.specs.Places.{IfDone, InOrder, in_document, nowhere};
 ghost use Rattle.cl_query.specs.Finding.{Finds, IsFoundBy, IsListed, dep_in};
 
 use crate::job::Job;
@@ -11,6 +10,7 @@ use cl_base::{Answer, Duplicate, EmptyBase, Known, List, Mem, Path, PpToken, Que
 use cl_headers::{Dep, HeaderMap, MapView};
 use cl_parse::items;
 use cl_pp::{PpAnswer, PpState, preprocess};
+use cl_tree::NameSet;
 use std::alloc::Global;
 
 /// What work on a job found: its answer, or the header that it needs, with what the work saw of headers.
@@ -47,7 +47,6 @@ pub(crate) fn find(alloc: Global, job: &Job) -> Mem<Found>
 
 /// What was found of symbols.
 fn found_by(alloc: Global, text: &[u8], answer: PpAnswer, seen: List<Dep>) -> Mem<Found>
-    requires order { IfDone (λ done. InOrder nowhere (length text.now) (in_document done.tokens)) answer }
     requires room { length text.now < 2 ^ 32 }
     ensures { IfOk result (IsFoundBy text.now answer seen) }
 {
@@ -62,11 +61,10 @@ fn found_by(alloc: Global, text: &[u8], answer: PpAnswer, seen: List<Dep>) -> Me
 
 /// The symbols of a text of these tokens.
 fn listed(alloc: Global, text: &[u8], tokens: &[PpToken]) -> Mem<List<Symbol>>
-    requires order { InOrder nowhere (length text.now) (in_document tokens.now) }
     requires room { length text.now < 2 ^ 32 }
     ensures { IfOk result (IsListed text.now tokens.now) }
 {
-    let items = items(alloc, tokens)?;
+    let items = items(alloc, tokens, NameSet::new(alloc))?;
     let symbols = symbols(alloc, text, tokens, items.as_slice())?;
     Ok(symbols)
 }

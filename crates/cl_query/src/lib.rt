@@ -4,6 +4,7 @@
 mod answers;
 mod done;
 mod job;
+mod landmarks;
 mod laws;
 mod run;
 mod seen;

@@ -22,7 +22,19 @@ fn lists_the_symbols(rt: HostRuntime) -> Result<(), Memory> {
         ("#define M int m;\nM\n", "13 m 1:0-1:1 1:0-1:1 0;"),
         (
             "#define D(a, b) int a; int b;\nD(x,\ny) int z;",
-            "13 x 1:0-2:2 1:0-2:2 0;13 y 1:0-2:2 1:0-2:2 0;13 z 2:3-2:9 2:7-2:8 0;",
+            "13 x 1:0-2:2 1:2-1:3 0;13 y 1:0-2:2 2:0-2:1 0;13 z 2:3-2:9 2:7-2:8 0;",
+        ),
+        (
+            "int a(void){return 1;}\nint b(void){return 1 +;}\nint c(void){return 2;}",
+            "12 a 0:0-0:22 0:4-0:5 0;12 b 1:0-1:24 1:4-1:5 0;12 c 2:0-2:22 2:4-2:5 0;",
+        ),
+        (
+            "typedef struct S { int m; } T, *P;\nenum E { A } e, f(T);",
+            "23 S 0:0-0:34 0:15-0:16 0;26 T 0:0-0:34 0:28-0:29 0;26 P 0:0-0:34 0:32-0:33 0;10 E 1:0-1:21 1:5-1:6 0;13 e 1:0-1:21 1:13-1:14 0;12 f 1:0-1:21 1:16-1:17 0;",
+        ),
+        (
+            "#define SWAP(a, b) int b, a;\nSWAP(x,\n  y)",
+            "13 y 1:0-2:4 2:2-2:3 0;13 x 1:0-2:4 1:5-1:6 0;",
         ),
         (
             "#if 0\nint a;\n#else\nint b;\n#endif\n",

@@ -2,6 +2,7 @@
 //! it was read.
 #![tactic(auto)]
 
+mod files;
 mod table;
 mod trees;
 

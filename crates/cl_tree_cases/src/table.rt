@@ -2,7 +2,7 @@
 //! what the texts behind it are read as, `typedefs` which names are typedef names before each, and an empty line and one
 //! that begins with `;` say nothing.
 
-use crate::trees;
+use crate::{files, trees};
 use cl_base::{Mem, Name};
 use cl_tree::NameSet;
 use std::alloc::Global;
@@ -22,6 +22,10 @@ enum Section {
     BlockItem,
     /// Files, with whether they end whole.
     EndsWhole,
+    /// Files, with their items.
+    Items,
+    /// Files, with what they declare.
+    Outline,
 }
 
 /// What stands between the lines of a table.
@@ -63,7 +67,9 @@ impl Table {
             Section::TypeName => trees::type_name(alloc, text.as_bytes(), &self.typedefs)?,
             Section::Statement => trees::statement(alloc, text.as_bytes(), &self.typedefs)?,
             Section::BlockItem => trees::block_item(alloc, text.as_bytes(), &self.typedefs)?,
-            Section::EndsWhole => trees::whole(alloc, text.as_bytes())?,
+            Section::EndsWhole => files::whole(alloc, text.as_bytes())?,
+            Section::Items => files::items_of(alloc, text.as_bytes())?,
+            Section::Outline => files::outline_of(alloc, text.as_bytes())?,
         };
         let shown = format!(in alloc; "{text} => {found}\n")?;
         Ok(shown)
@@ -86,6 +92,8 @@ fn section_of(name: &str) -> Section {
         "[statement]" => Section::Statement,
         "[block item]" => Section::BlockItem,
         "[ends whole]" => Section::EndsWhole,
+        "[items]" => Section::Items,
+        "[outline]" => Section::Outline,
         _ => Section::Expression,
     }
 }

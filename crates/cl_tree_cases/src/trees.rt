@@ -4,7 +4,6 @@ use cl_base::{Duplicate, List, Mem, PpToken, Span};
 use cl_declr::{parse_declaration, parse_type_name};
 use cl_expr::{parse, parse_expr};
 use cl_lex::lex;
-use cl_parse::ends_whole;
 use cl_tree::{NameSet, Nonterminal, Rule, Tree};
 use std::alloc::Global;
 
@@ -43,20 +42,8 @@ pub(crate) fn block_item(alloc: Global, text: &[u8], typedefs: &NameSet) -> Mem<
     written(alloc, tokens.as_slice(), tree)
 }
 
-/// Whether a file ends whole: `yes` or `no`.
-pub(crate) fn whole(alloc: Global, text: &[u8]) -> Mem<String> {
-    let tokens = tokens_of(alloc, text)?;
-    let mut out = String::new(alloc);
-    if ends_whole(alloc, tokens.as_slice())? {
-        out.push_str("yes")?;
-    } else {
-        out.push_str("no")?;
-    }
-    Ok(out)
-}
-
 /// The tokens of a text, where no line is a directive.
-fn tokens_of(alloc: Global, text: &[u8]) -> Mem<List<PpToken>> {
+pub(crate) fn tokens_of(alloc: Global, text: &[u8]) -> Mem<List<PpToken>> {
     let lexed = lex(alloc, text)?;
     let mut all = List::new(alloc);
     for token in lexed.tokens.as_slice() {

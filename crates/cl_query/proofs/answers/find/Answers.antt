@@ -1,4 +1,4 @@
-use Rattle.std.proofs.Common.{◌≡◌, ◌<◌, ℕ, List, [], refl, sym, subst, ◌∙◌, length, map}
+use Rattle.std.proofs.Common.{◌<◌, ℕ, List, [], sym, subst, ◌∙◌, length, map}
 use Rattle.cl_base.specs.declared.query.Query.{Query}
 use Rattle.cl_headers.specs.Resolving.{known_of}
 use Rattle.cl_pp.specs.Before.{Preprocessed, before_of}

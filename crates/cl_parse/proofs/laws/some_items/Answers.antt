@@ -1,5 +1,0 @@
-use Rattle.cl_parse.proofs.Existing.{some_items}
-use Rattle.cl_parse.proofs.laws.some_items.Goals as goal
-
-pub returns : goal.returns
-returns c = some_items

@@ -1,0 +1,11 @@
+use Rattle.cl_parse.specs.code.Reading.{IsSettled}
+use Rattle.cl_parse.proofs.Read.{proper_next}
+use Rattle.std.proofs.Common.{List, subst}
+use Rattle.cl_tree.specs.declared.scope.Change.{Change}
+use Rattle.cl_parse.proofs.parse.proper.Goals as goal
+
+pub returns : goal.returns
+returns c =
+    proper_next c.args.tokens.now c.args.pairs.now c.args.reading c.in_ok-reading.reading c.args.parsed.tree c.args.parsed.scope c.args.to c.moved-marks.result c.requires.reads c.requires.some c.requires.within c.requires.end
+    c.moved-marks.ensures.from c.moved-marks.ensures.marks c.requires.is
+    (subst (λ (cs : List Change). IsSettled c.args.reading.names c.args.reading.ahead cs c.args.to c.moved-marks.result c.in_ok-reading.reading) c.as_slice-changes.ensures.value c.in_ok-reading.ensures)

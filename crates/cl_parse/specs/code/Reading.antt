@@ -1,0 +1,50 @@
+-- How far the code has read a file.
+use Rattle.std.specs.Prelude.{◌≡◌, ◌⊎◌, ℕ, ◌<◌, ◌≤◌, List, ◌∷◌, length, take}
+use Rattle.cl_base.specs.declared.token.PpToken.{PpToken}
+use Rattle.cl_tree.specs.Lexemes.{lexemes_to}
+use Rattle.cl_tree.specs.Scopes.{known}
+use Rattle.cl_tree.specs.Sets.{has}
+use Rattle.cl_tree.specs.declared.lexeme.Lexeme.{Lexeme}
+use Rattle.cl_tree.specs.declared.scope.Change.{Change}
+use Rattle.cl_tree.specs.declared.set.NameSet.{NameSet}
+use Rattle.cl_parse.specs.Items.{ItemTiles}
+use Rattle.cl_parse.specs.code.Marks.{AreMarks}
+use Rattle.cl_parse.specs.declared.item.Item.{Item}
+use Rattle.cl_parse.specs.declared.marks.Marks.{Marks}
+use Rattle.cl_parse.specs.declared.parse.Next.{Next}
+use Rattle.cl_parse.specs.declared.parse.Reading.{Reading}
+
+-- the tokens of the items before the next one
+abbrev pub before : Reading → List Lexeme
+before r = take r.at r.ahead
+
+-- what lies ahead was read with the names that are known there
+pub record Reads (tokens : List PpToken) (pairs : List ℕ) (r : Reading) : Type 0 where
+  pub within : r.at ≤ length r.ahead
+  pub short : length r.ahead ≤ length tokens
+  pub ahead : r.ahead ≡ lexemes_to (has r.names) pairs tokens (before r) (length r.ahead)
+  pub from : r.marks.from ≡ r.at
+  pub marks : AreMarks tokens pairs r.marks
+
+-- more tokens are read
+pub record IsExtended (tokens : List PpToken) (pairs : List ℕ) (old : Reading) (to : ℕ) (new : Reading) : Type 0 where
+  pub reads : Reads tokens pairs new
+  pub far : to ≤ length new.ahead
+  pub names : new.names ≡ old.names
+  pub at : new.at ≡ old.at
+  pub marks : new.marks ≡ old.marks
+  pub before : before new ≡ before old
+
+-- a proper item that ends there was passed, which leaves these changes
+pub record IsSettled (names : NameSet) (ahead : List Lexeme) (changes : List Change) (to : ℕ) (marks : Marks) (new : Reading) : Type 0 where
+  pub names_are : (name : List ℕ) → has new.names name ≡ known (take to ahead) changes (has names name) name
+  pub ahead_is : (new.ahead ≡ take to ahead) ⊎ ((new.ahead ≡ ahead) × (new.names ≡ names))
+  pub at : new.at ≡ to
+  pub marks_are : new.marks ≡ marks
+
+-- the next item was read
+pub record IsNext (tokens : List PpToken) (pairs : List ℕ) (old : Reading) (next : Next) : Type 0 where
+  pub reads : Reads tokens pairs next.reading
+  pub further : old.at < next.reading.at
+  pub tiles : (items : List Item) → ItemTiles tokens pairs (has next.reading.names) (before next.reading) items
+      → ItemTiles tokens pairs (has old.names) (before old) (next.item ∷ items)
