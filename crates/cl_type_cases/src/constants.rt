@@ -105,10 +105,11 @@ fn over_one(alloc: Global, stack: &mut List<TypedExpr>, word: &str) -> Mem<Typed
     Ok(made(op, operand, parts))
 }
 
-/// A cast to the type of a chain.
-fn cast_over(alloc: Global, stack: &mut List<TypedExpr>, text: &str) -> Mem<TypedExpr> {
+/// A cast to the type of a chain in parentheses.
+fn cast_over(alloc: Global, stack: &mut List<TypedExpr>, word: &str) -> Mem<TypedExpr> {
     let a = taken(alloc, stack);
-    let to = type_of(alloc, text)?;
+    let text = word.strip_prefix("(").unwrap_or(word);
+    let to = type_of(alloc, text.strip_suffix(")").unwrap_or(text))?;
     let operand = cast(alloc, &to, &a.operand)?;
     let mut parts = List::new(alloc);
     parts.push(a)?;
@@ -126,63 +127,42 @@ fn over_two(alloc: Global, stack: &mut List<TypedExpr>, word: &str) -> Mem<Typed
     Ok(made(Typed::Binary(op), operand, parts))
 }
 
-fn over_three(alloc: Global, stack: &mut List<TypedExpr>) -> Mem<TypedExpr> {
+/// `?:`, or a generic selection of three parts that selects the last and has type `int`.
+fn over_three(alloc: Global, stack: &mut List<TypedExpr>, word: &str) -> Mem<TypedExpr> {
     let c = taken(alloc, stack);
     let b = taken(alloc, stack);
     let a = taken(alloc, stack);
-    let operand = conditional(alloc, &a.operand, &b.operand, &c.operand)?;
+    let chosen = conditional(alloc, &a.operand, &b.operand, &c.operand)?;
     let mut parts = List::new(alloc);
     parts.push(a)?;
     parts.push(b)?;
     parts.push(c)?;
-    Ok(made(Typed::Select, operand, parts))
+    match word {
+        "?:" => Ok(made(Typed::Select, chosen, parts)),
+        _ => Ok(made(Typed::Generic(2), Some(value(CType::Int)), parts)),
+    }
 }
 
-/// A generic selection of three parts that selects the last.
-fn generic(alloc: Global, stack: &mut List<TypedExpr>) -> Mem<TypedExpr> {
-    let c = taken(alloc, stack);
-    let b = taken(alloc, stack);
-    let a = taken(alloc, stack);
-    let ty = type_of(alloc, "i")?;
-    let mut parts = List::new(alloc);
-    parts.push(a)?;
-    parts.push(b)?;
-    parts.push(c)?;
-    Ok(made(Typed::Generic(2), Some(value(ty)), parts))
+/// How many operands an operator has, and 0 of what is none.
+fn operand_count(word: &str) -> u8 {
+    match word.as_bytes() {
+        [b'?', ..] | [b'g', b'e', ..] => 3,
+        [_, b'_'] | [b'+', b'+', b'_'] | [b'c', b'a', ..] => 1,
+        [b'(', ..] => 4,
+        [b'\'', ..] | [b'.', ..] => 0,
+        [b'!'..=b'/' | b'<'..=b'>' | b'[' | b'^' | b'|', ..] => 2,
+        _ => 0,
+    }
 }
 
 /// The expression that a word ends.
 fn next(alloc: Global, stack: &mut List<TypedExpr>, word: &str) -> Mem<TypedExpr> {
-    match word {
-        "?:" => over_three(alloc, stack),
-        "generic" => generic(alloc, stack),
-        "-_" | "+_" | "~_" | "!_" | "&_" | "*_" | "++_" | "call" => over_one(alloc, stack, word),
-        "*"
-        | "/"
-        | "%"
-        | "+"
-        | "-"
-        | "<<"
-        | ">>"
-        | "<"
-        | ">"
-        | "<="
-        | ">="
-        | "=="
-        | "!="
-        | "&"
-        | "^"
-        | "|"
-        | "&&"
-        | "||"
-        | "="
-        | "+="
-        | "[]"
-        | "," => over_two(alloc, stack, word),
-        _ => match word.strip_prefix("(") {
-            Some(text) => cast_over(alloc, stack, text.strip_suffix(")").unwrap_or(text)),
-            None => leaf_of(alloc, word),
-        },
+    match operand_count(word) {
+        1 => over_one(alloc, stack, word),
+        2 => over_two(alloc, stack, word),
+        3 => over_three(alloc, stack, word),
+        4 => cast_over(alloc, stack, word),
+        _ => leaf_of(alloc, word),
     }
 }
 

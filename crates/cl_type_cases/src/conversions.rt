@@ -153,24 +153,47 @@ fn member(alloc: Global, text: &str) -> Mem<Member> {
     })
 }
 
-/// Access to a member: `.` and `->` of an object, `v.` of a value.
-pub(crate) fn part_of(alloc: Global, op: &str, operands: &str) -> Mem<String> {
-    let (left, right) = operands.split_once(" ").unwrap_or((operands, ""));
-    let mut a = operand(alloc, left)?;
-    let member = member(alloc, right)?;
-    let how = match op {
+/// What an operand is beside its type.
+fn kind_of(found: &Operand) -> &'static str {
+    match (found.lvalue, found.bit_field) {
+        (true, false) => "lvalue",
+        (true, true) => "lvalue, bit-field",
+        (false, false) => "value",
+        (false, true) => "value, bit-field",
+    }
+}
+
+fn access_of(op: &str) -> Access {
+    match op {
         "->" => Access::Arrow,
         _ => Access::Dot,
-    };
+    }
+}
+
+/// The operand of a chain, which is no lvalue behind `v.`.
+fn left_of(alloc: Global, op: &str, chain: &str) -> Mem<Operand> {
+    let mut a = operand(alloc, chain)?;
     a.lvalue = op != "v.";
-    match member_of(alloc, how, &a, &member)? {
+    Ok(a)
+}
+
+/// The type of an operand and what else it is, or `-` for none.
+fn described(alloc: Global, found: Option<Operand>) -> Mem<String> {
+    match found {
         Some(found) => {
-            let kind = if found.lvalue { "lvalue" } else { "value" };
-            let width = if found.bit_field { ", bit-field" } else { "" };
             let name = print(alloc, &found.ty, "")?;
-            let shown = format!(in alloc; "{name}, {kind}{width}")?;
+            let shown = format!(in alloc; "{name}, {}", kind_of(&found))?;
             Ok(shown)
         }
         None => said(alloc, None),
     }
+}
+
+/// Access to a member: `.` and `->` of an object, `v.` of a value.
+pub(crate) fn part_of(alloc: Global, op: &str, operands: &str) -> Mem<String> {
+    let (left, right) = operands.split_once(" ").unwrap_or((operands, ""));
+    let a = left_of(alloc, op, left)?;
+    let member = member(alloc, right)?;
+    let found = member_of(alloc, access_of(op), &a, &member)?;
+    described(alloc, found)
 }
