@@ -169,6 +169,17 @@ for z, q in enumerate(P):
     if q['scoped'] and (ends[home[z]] or P[home[z]]['corner']): bad.append(('scoped', z, ends[home[z]]))
 for q in P:
     if q['corner'] and q['corner'][0] in SHUNS: bad.append(('corner', q['corner']))
+# what holds no block: the nonterminals and the productions from which no list of a block's items is reached
+FLAT = {g: g != 'BlockItemList' for g in GOALS}
+ch = True
+while ch:
+    ch = False
+    flat = {}
+    for q in range(len(P)): flat[home[q]] = flat.get(home[q], True) and all(s[0] == 'T' or FLAT[s[1]] for _, s, _ in P[q]['edges'])
+    for g in GOALS:
+        if FLAT[g] and not all(flat[home[z]] for z in K[g]): FLAT[g] = False; ch = True
+for q in P:
+    if q['corner'] and not FLAT[q['corner'][0]]: bad.append(('flat', q['corner']))
 def show(i, d):
     p = PRODS[i]
     t = []

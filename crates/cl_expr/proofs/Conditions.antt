@@ -12,7 +12,7 @@ use Rattle.cl_expr.specs.declared.table.Edge.{Edge}
 use Rattle.cl_expr.specs.declared.table.Head.{Head}
 use Rattle.cl_expr.specs.declared.table.Ways.{Ways}
 use Rattle.cl_expr.specs.declared.table.Label.{Label}
-use Rattle.cl_expr.specs.code.Table.{Place, places, nowhere, place, goal, goals, number, edges, name_of, bars, scoped, is_named, turning, turned, turn, home, corner, kinds, openers, suffixes, firsts, ends, goes}
+use Rattle.cl_expr.specs.code.Table.{Place, places, nowhere, place, goal, goals, number, edges, name_of, bars, scoped, flat, flat_goal, is_named, turning, turned, turn, home, corner, kinds, openers, suffixes, firsts, ends, goes}
 use Rattle.cl_tree.specs.Derives.{Has, barred}
 use Rattle.cl_expr.specs.code.Parses.{BeginsSymbol, Begins, Enters}
 use Rattle.cl_tree.specs.Grammar.{takes, shuns}
@@ -162,6 +162,20 @@ abbrev is_empty : List Class → Bool
 is_empty [] = true
 is_empty (k ∷ ks) = false
 
+-- what holds no block has no part that holds one, and nothing else is read before its production is known
+abbrev pub symbol_flat : Symbol → Bool
+symbol_flat (Token c a) = true
+symbol_flat (Node g) = flat_goal g
+
+abbrev c_flat : ℕ → Bool
+c_flat q = when (flat q) (steps (λ e n. symbol_flat e.symbol && flat n) q)
+
+abbrev c_flat_left : ℕ → Bool
+c_flat_left s = on_some (λ c. flat_goal c.goal) (corner s)
+
+abbrev c_flat_goal : Nonterminal → Bool
+c_flat_goal g = when (flat_goal g) (every (λ z. flat (home z)) (kinds g))
+
 -- nothing goes on from a block, and it begins with a token
 abbrev c_scoped : ℕ → Bool
 c_scoped z = when (scoped z) (is_empty (ends (home z)) && not (is_some (corner (home z))))
@@ -263,6 +277,18 @@ places_scoped : every_place c_scoped ≡ true
 unfolding places place scoped home ends corner
 places_scoped = refl
 
+places_flat : every_place c_flat ≡ true
+unfolding places place edges turning flat flat_goal goal goals
+places_flat = refl
+
+places_flat_left : every_place c_flat_left ≡ true
+unfolding places place corner flat_goal goal goals
+places_flat_left = refl
+
+goals_flat : every c_flat_goal all_goals ≡ true
+unfolding places place home flat kinds flat_goal goal goals
+goals_flat = refl
+
 goals_checked : every c_goal all_goals ≡ true
 unfolding shuns places place edges name_of bars is_named turning turn home corner kinds openers suffixes firsts ends goes goal goals
 goals_checked = refl
@@ -314,6 +340,12 @@ record PlaceFacts (q : ℕ) : Type 0 where
   left : c_left q ≡ true
   opened : c_open q ≡ true
   scoped : c_scoped q ≡ true
+  flat : c_flat q ≡ true
+  flat_left : c_flat_left q ≡ true
+
+when_always : (b : Bool) → when b true ≡ true
+when_always true = refl
+when_always false = refl
 
 place_facts : (q : ℕ) → PlaceFacts q
 place_facts q = elim (either q) [
@@ -330,6 +362,8 @@ place_facts q = elim (either q) [
     left = rw l.corner_none refl;
     opened = rw l.corner_none refl;
     scoped = rw l.scoped_false refl;
+    flat = rw l.edges_none (when_always (flat q));
+    flat_left = rw l.corner_none refl;
   })
   | inr h ↦ record {
     apart = every_has c_apart (numbers 0 places) places_apart q h;
@@ -344,6 +378,8 @@ place_facts q = elim (either q) [
     left = every_has c_left (numbers 0 places) places_left q h;
     opened = every_has c_open (numbers 0 places) places_open q h;
     scoped = every_has c_scoped (numbers 0 places) places_scoped q h;
+    flat = every_has c_flat (numbers 0 places) places_flat q h;
+    flat_left = every_has c_flat_left (numbers 0 places) places_flat_left q h;
   }
 ]
 
@@ -498,6 +534,17 @@ firsts_have g z k h n begun =
 -- a production that begins with a left part: that part shuns nothing, and the node is no block
 pub left_open : (s : ℕ) (c : Head) → corner s ≡ Some c → shuns c.goal ≡ None
 left_open s c e = none_is (shuns c.goal) (on_some_use (λ d. not (is_some (shuns d.goal))) (corner s) c e (place_facts s).opened)
+
+pub left_flat : (s : ℕ) (c : Head) → corner s ≡ Some c → flat_goal c.goal ≡ true
+left_flat s c e = on_some_use (λ d. flat_goal d.goal) (corner s) c e (place_facts s).flat_left
+
+pub flat_kind : (g : Nonterminal) (z : ℕ) → flat_goal g ≡ true → Has (kinds g) z → flat (home z) ≡ true
+flat_kind g z is h =
+    every_has (λ v. flat (home v)) (kinds g) (when_use (flat_goal g) _ (every_has c_flat_goal all_goals goals_flat g (number g, numbered_goal g)) is) z h
+
+pub flat_edge : (q : ℕ) (e : Edge) (y : ℕ) → flat q ≡ true → Has (edges q) e → (symbol_flat e.symbol ≡ true) × (flat (turn e.next y) ≡ true)
+flat_edge q e y is h =
+    and_parts (symbol_flat e.symbol) (flat (turn e.next y)) (steps_use (λ d n. symbol_flat d.symbol && flat n) q (when_use (flat q) _ (place_facts q).flat is) e y h)
 
 bool_cases : (b : Bool) → (b ≡ true) ⊎ (b ≡ false)
 bool_cases true = inl refl

@@ -26,7 +26,7 @@ use Rattle.cl_expr.specs.code.Paths.{name, node, Ended, Reads, ReadsAfter, Path,
 use Rattle.cl_expr.specs.code.Parses.{AllOf, Tall, Begins, Enters, Halts, StopsSymbol, Parses, SoundPart, Part, Half, Builds}
 use Rattle.cl_expr.proofs.Checks.{some_is}
 use Rattle.cl_expr.proofs.Conditions.{Way, one_edge, more, on, held, shut, home_next, plain_next}
-use Rattle.cl_expr.proofs.Heights.{kind_le, of_kind, path_enters, reads_first, end_piece, tall_zero, tall_parts}
+use Rattle.cl_expr.proofs.Heights.{of_kind, tall_le, all_tall_le, tall_piece, of_parts, path_enters, reads_first, end_piece, tall_zero, tall_parts}
 
 none_not : {X : Type 0} {x : X} → None ≡ Some x → ⊥
 none_not e = cc
@@ -34,6 +34,10 @@ none_not e = cc
 all_front : (P : Tree → Type 0) (ps : List Tree) (t : Tree) → AllOf P (ps ++ t ∷ []) → AllOf P ps
 all_front P [] t a = tt
 all_front P (p ∷ ps) t a = (a.0, all_front P ps t a.1)
+
+all_append : (P : Tree → Type 0) (ps : List Tree) (t : Tree) → AllOf P ps → P t → AllOf P (ps ++ t ∷ [])
+all_append P [] t a b = (b, tt)
+all_append P (p ∷ ps) t a b = (a.0, all_append P ps t a.1 b)
 
 all_last : (P : Tree → Type 0) (ps : List Tree) (t : Tree) → AllOf P (ps ++ t ∷ []) → P t
 all_last P [] t a = a.0
@@ -51,9 +55,10 @@ pub part_piece : (cs : List Lexeme) (h : ℕ) (sa : Scope) (c : Terminal) (a : A
     → at ≤ last_token cs c at → last_token cs c at < length cs → Part cs h sa None (Token c a) at (Some (record { tree = piece cs c at; place = 0; scope = pass cs sa a at; height = 1 }))
 part_piece cs h sa c a k at token has some closed above within = record {
   found = record {
-    reads = λ n l. (refl, l, refl, (k, token, has), refl, closed);
+    reads = (refl, some, refl, (k, token, has), refl, closed);
     grows = rw (end_piece cs c at) (omega arith);
     within = rw (end_piece cs c at) (omega arith);
+    tall = tall_piece cs c 1 at (omega arith);
     least = one;
     high = some;
   };
@@ -102,7 +107,8 @@ part_node cs h sa g at (Some f) p =
     let o = p.found in
     record {
       found = record {
-        reads = λ n l. ((o.1, kind_le cs f.height n f.place sa f.tree f.scope l o.0.kind, subst (λ (i : ℕ). Opened cs g sa i) (sym o.2) o.3), o.2);
+        reads = ((o.1, o.0.kind, subst (λ (i : ℕ). Opened cs g sa i) (sym o.2) o.3), o.2);
+        tall = o.0.tall;
         grows = subst (λ (i : ℕ). i < end f.tree) o.2 o.0.grows;
         within = o.0.within;
         least = o.0.least;
@@ -118,7 +124,7 @@ part_after cs h sa b x at None token p = record { found = tt; only = λ t y w r 
 part_after cs h sa b x at (Some f) token p =
     let o = p.found in
     record {
-      found = record { reads = λ n l. (token, o.reads n l); grows = (let g : at + 1 < end f.tree = o.grows in omega arith); within = o.within; least = o.least; high = o.high };
+      found = record { reads = (token, o.reads); tall = o.tall; grows = (let g : at + 1 < end f.tree = o.grows in omega arith); within = o.within; least = o.least; high = o.high };
       only = λ t y w r s. p.only t y w r.1 s;
     }
 
@@ -226,16 +232,17 @@ module _ (cs : List Lexeme) (h : ℕ) (sa s0 : Scope) (q0 : ℕ) (ps0 : List Tre
         let g : mid < end f.tree = s.grows in
         let i : f.height ≤ h = s.high in
         let i' : height ≤ h = r.half.high in
-        let way : Way e.symbol f.place = way_of cs f.height e.before e.symbol f.place sm mid f.tree f.scope (s.reads f.height (omega arith)) in
+        let way : Way e.symbol f.place = way_of cs h e.before e.symbol f.place sm mid f.tree f.scope s.reads in
         let home_is : home (turn e.next f.place) ≡ home q = home_next q e f.place has way in
         let home_is' : home q' ≡ home q = ap home place ∙ home_is in
         record {
           half = record {
-            joins = λ n to rest z sv le p. (
-                let p' : Path (At cs n) n cs (turn e.next f.place) f.scope (end f.tree) to rest z sv = subst (λ (v : ℕ). Path (At cs n) n cs v f.scope (end f.tree) to rest z sv) place p in
-                let j : Path (At cs n) n cs (home q) sa from to (ps ++ f.tree ∷ rest) z sv = r.half.joins n to (f.tree ∷ rest) z sv (omega arith) (e, f.place, f.scope, has, s.reads n (omega arith), p') in
-                subst (λ (v : ℕ). Path (At cs n) n cs v sa from to ((ps ++ f.tree ∷ []) ++ rest) z sv) (sym home_is')
-                (subst (λ (v : List Tree). Path (At cs n) n cs (home q) sa from to v z sv) (sym (append_assoc ps (f.tree ∷ []) rest)) j));
+            joins = λ to rest z sv p. (
+                let p' : Path (At cs h) h cs (turn e.next f.place) f.scope (end f.tree) to rest z sv = subst (λ (v : ℕ). Path (At cs h) h cs v f.scope (end f.tree) to rest z sv) place p in
+                let j : Path (At cs h) h cs (home q) sa from to (ps ++ f.tree ∷ rest) z sv = r.half.joins to (f.tree ∷ rest) z sv (e, f.place, f.scope, has, s.reads, p') in
+                subst (λ (v : ℕ). Path (At cs h) h cs v sa from to ((ps ++ f.tree ∷ []) ++ rest) z sv) (sym home_is')
+                (subst (λ (v : List Tree). Path (At cs h) h cs (home q) sa from to v z sv) (sym (append_assoc ps (f.tree ∷ []) rest)) j));
+            tall = all_append (Tall m) ps f.tree (all_tall_le height m ps (omega arith) r.half.tall) (tall_le f.height m f.tree (omega arith) s.tall);
             least = λ k' a. (
                 let b : height ≤ k' = r.half.least k' (all_front (Tall k') ps f.tree a) in
                 let d : f.height ≤ k' = s.least k' (all_last (Tall k') ps f.tree a) in
@@ -296,14 +303,15 @@ module _ (cs : List Lexeme) (h : ℕ) (sa s0 : Scope) (q0 : ℕ) (ps0 : List Tre
         → Builds cs h sa s0 q0 ps0 from mid0 (Some (record { tree = node n from mid ps; place = q; scope = leave (scoped q) sa sm; height = height + 1 }))
     reading_end n unnamed ended =
         let low : height ≤ h = r.half.high in
-        let path : Path (At cs height) height cs (home q) sa from mid (ps ++ []) q sm = r.half.joins height mid [] q sm (omega arith) (refl, refl, refl) in
-        let path' : Path (At cs height) height cs (home q) sa from mid ps q sm = subst (λ (v : List Tree). Path (At cs height) height cs (home q) sa from mid v q sm) (append-nil ps) path in
+        let path : Path (At cs h) h cs (home q) sa from mid (ps ++ []) q sm = r.half.joins mid [] q sm (refl, refl, refl) in
+        let path' : Path (At cs h) h cs (home q) sa from mid ps q sm = subst (λ (v : List Tree). Path (At cs h) h cs (home q) sa from mid v q sm) (append-nil ps) path in
         let strict : mid0 < mid = further r.ahead in
         record {
           found = (
             record {
-              kind = subst (λ (i : ℕ). Kind cs i q sa (node n from mid ps) (leave (scoped q) sa sm)) (omega arith)
-                  (of_kind cs height q sa (node n from mid ps) (leave (scoped q) sa sm) sm refl (whole_ended) (whole_path path'));
+              kind = of_kind cs h q sa (node n from mid ps) (leave (scoped q) sa sm) sm refl (whole_ended) (whole_path path');
+              tall = subst (λ (i : ℕ). Tall i (node n from mid ps)) (omega arith)
+                  (of_parts height (node n from mid ps) (subst (λ (x : Tree-F Tree). AllOf (Tall height) x.parts) (sym rolled) r.half.tall));
               grows = subst (λ (x : Tree-F Tree). x.from < x.to) (sym rolled) (omega (arith, r.above0));
               within = subst (λ (x : Tree-F Tree). x.to ≤ length cs) (sym rolled) r.half.within;
               least = whole_least;
@@ -327,8 +335,8 @@ module _ (cs : List Lexeme) (h : ℕ) (sa s0 : Scope) (q0 : ℕ) (ps0 : List Tre
         whole_ended : Ended cs sm q (end (node n from mid ps)) (name (node n from mid ps))
         whole_ended = subst (λ (x : Tree-F Tree). Ended cs sm q x.to (record { rule = x.rule; choice = x.choice })) (sym rolled) ended
 
-        whole_path : Path (At cs height) height cs (home q) sa from mid ps q sm → Path (At cs height) height cs (home q) sa (start (node n from mid ps)) (end (node n from mid ps)) (parts (node n from mid ps)) q sm
-        whole_path p = subst (λ (x : Tree-F Tree). Path (At cs height) height cs (home q) sa x.from x.to x.parts q sm) (sym rolled) p
+        whole_path : Path (At cs h) h cs (home q) sa from mid ps q sm → Path (At cs h) h cs (home q) sa (start (node n from mid ps)) (end (node n from mid ps)) (parts (node n from mid ps)) q sm
+        whole_path p = subst (λ (x : Tree-F Tree). Path (At cs h) h cs (home q) sa x.from x.to x.parts q sm) (sym rolled) p
 
         whole_least : (k : ℕ) → Tall k (node n from mid ps) → height + 1 ≤ k
         whole_least zero a = absurd (tall_zero (node n from mid ps) a)

@@ -60,11 +60,12 @@ abbrev pub Gives : Option Found → Tree → ℕ → Scope → Type 0
 Gives None t z w = ⊥
 Gives (Some f) t z w = (f.tree ≡ t) × (f.place ≡ z) × (f.scope ≡ w)
 
--- what was found is a tree of its kind and of its height, and no lower
+-- what was found is a tree of its kind by this height, is that high itself, and no lower: with a lower bound other items of its blocks may derive
 pub record Sound (cs : List Lexeme) (h : ℕ) (s : Scope) (f : Found) : Type 0 where
-  pub kind : Kind cs f.height f.place s f.tree f.scope
+  pub kind : Kind cs h f.place s f.tree f.scope
   pub grows : start f.tree < end f.tree
   pub within : end f.tree ≤ length cs
+  pub tall : Tall f.height f.tree
   pub least : (k : ℕ) → Tall k f.tree → f.height ≤ k
   pub high : f.height ≤ h
 
@@ -84,9 +85,10 @@ pub record Nests (cs : List Lexeme) (h : ℕ) (pre : Global → Bor (List Lexeme
 
 -- a part that was read
 pub record SoundPart (cs : List Lexeme) (h : ℕ) (s : Scope) (b : Option Separator) (x : Symbol) (at : ℕ) (f : Found) : Type 0 where
-  pub reads : (n : ℕ) → f.height ≤ n → ReadsAfter (At cs n) n cs b x f.place s at f.tree f.scope
+  pub reads : ReadsAfter (At cs h) h cs b x f.place s at f.tree f.scope
   pub grows : at < end f.tree
   pub within : end f.tree ≤ length cs
+  pub tall : Tall f.height f.tree
   pub least : (k : ℕ) → Tall k f.tree → f.height ≤ k
   pub high : f.height ≤ h
 
@@ -97,8 +99,9 @@ pub record Part (cs : List Lexeme) (h : ℕ) (s : Scope) (b : Option Separator) 
 
 -- part of a production has been read, up to a place of it; sa before it, sm there
 pub record Half (cs : List Lexeme) (h : ℕ) (sa sm : Scope) (q : ℕ) (ps : List Tree) (from mid height : ℕ) : Type 0 where
-  pub joins : (n to : ℕ) (rest : List Tree) (z : ℕ) (sv : Scope) → height ≤ n → Path (At cs n) n cs q sm mid to rest z sv
-      → Path (At cs n) n cs (home q) sa from to (ps ++ rest) z sv
+  pub joins : (to : ℕ) (rest : List Tree) (z : ℕ) (sv : Scope) → Path (At cs h) h cs q sm mid to rest z sv
+      → Path (At cs h) h cs (home q) sa from to (ps ++ rest) z sv
+  pub tall : AllOf (Tall height) ps
   pub least : (k : ℕ) → AllOf (Tall k) ps → height ≤ k
   pub plain : corner q ≡ None
   pub within : mid ≤ length cs
