@@ -27,7 +27,7 @@ def chunked(name, ty, items, size, one_line=True):
     if one_line: return f'static {name}: [{ty}; {len(items)}] = [\n' + wrap(items) + '];\n\n'
     return f'static {name}: [{ty}; {len(items)}] = rows! {{\n' + wrap(items) + '};\n\n'
 def cterm(t): return f'Terminal::{t}' if t in SETS else f'is!({t})'
-def csym(s): return f'node!({s[1]})' if s[0] == 'N' else (f'token!({cterm(s[1])})' if s[2] == 'Stay' else f'act!({cterm(s[1])}, {s[2]})')
+def csym(s): return 'Symbol::Entry' if s[0] == 'I' else f'node!({s[1]})' if s[0] == 'N' else (f'token!({cterm(s[1])})' if s[2] == 'Stay' else f'act!({cterm(s[1])}, {s[2]})')
 def cedge(x):
     a, s, n = x
     return f'edge!({csym(s)}, {n})' if a is None else f'after!({a[0]}, {a[1]}, {csym(s)}, {n})'
@@ -307,7 +307,7 @@ use Rattle.cl_tree.specs.declared.grammar.Terminal.{Terminal}
 use Rattle.cl_tree.specs.declared.grammar.Terminal.TheVariants as te
 use Rattle.cl_tree.specs.declared.grammar.Act.TheVariants as ac
 use Rattle.cl_tree.specs.declared.grammar.Symbol.{Symbol}
-use Rattle.cl_tree.specs.declared.grammar.Symbol.TheVariants.{Token, Node}
+use Rattle.cl_tree.specs.declared.grammar.Symbol.TheVariants.{Token, Node, Entry}
 use Rattle.cl_tree.specs.declared.grammar.Separator.{Separator}
 use Rattle.cl_tree.specs.Derives.{barred}
 use Rattle.cl_expr.specs.declared.table.Edge.{Edge}
@@ -383,7 +383,7 @@ places =
 '''.replace('abbrev label : _ → ℕ', 'abbrev label : Rule → ℕ').replace('use Rattle.cl_tree.specs.declared.rule.Rule.TheVariants as ru', 'use Rattle.cl_tree.specs.declared.rule.Rule.{Rule}\nuse Rattle.cl_tree.specs.declared.rule.Rule.TheVariants as ru')
 def lst(xs): return '(' + ' ∷ '.join(xs + ['[]']) + ')' if xs else '[]'
 def tterm_a(t): return ("te." + t) if t in SETS else "(te.Is cl." + t + ")"
-def tsym_a(s): return f'(Node nt.{s[1]})' if s[0] == 'N' else f'(Token {tterm_a(s[1])} ac.{s[2]})'
+def tsym_a(s): return 'Entry' if s[0] == 'I' else f'(Node nt.{s[1]})' if s[0] == 'N' else f'(Token {tterm_a(s[1])} ac.{s[2]})'
 def edge_a(x):
     a, s, n = x
     return f'e {tsym_a(s)} {n}' if a is None else f'after (record {{ class = cl.{a[0]}; act = ac.{a[1]} }}) {tsym_a(s)} {n}'
@@ -396,6 +396,10 @@ A += '    []\n\nunfoldable pub goals : List Goal\ngoals =\n'
 for g in GOALS:
     A += f'    -- {g}\n    record {{ kinds = {lst([str(z) for z in K[g]])}; openers = {lst([str(z) for z in openers[g]])}; suffixes = {lst([str(z) for z in suffixes[g]])}; firsts = {lst(["cl." + c for c in order(F[g])])}; goes = {lst(["cl." + c for c in order(goes[g])])}; shuns = {"Some %s" % tterm_a(SHUNS[g]) if g in SHUNS else "None"}; flat = {"true" if FLAT[g] else "false"} }} ∷\n'
 A += '''    []
+
+-- the tokens that begin an item of a block or what is none: all but what ends the block
+unfoldable pub entry_classes : List Class
+entry_classes = ''' + ' ∷ '.join(['cl.' + c for c in ENTRIES] + ['[]']) + '''
 
 -- the places where the productions begin, by the numbers of these
 unfoldable pub starts : List ℕ

@@ -1,10 +1,12 @@
 -- Heights, and the token with which a tree begins.
-use Rattle.std.proofs.Common.{◌≡◌, ℕ, zero, suc, ◌+◌, ◌≤◌, List, [], ◌∷◌, arith, refl, sym, ◌∙◌, ap, subst}
+use Rattle.std.proofs.Common.{◌≡◌, ℕ, zero, suc, ◌+◌, ◌≤◌, List, [], ◌∷◌, inl, inr, arith, refl, sym, ◌∙◌, ap, subst}
 use Rattle.std.specs.Prelude.{Option, Some, None, true}
+use Rattle.std.proofs.lemmas.Bool.{false≢true}
 use Rattle.cl_tree.specs.declared.class.Class.{Class}
 use Rattle.cl_tree.specs.declared.nonterminal.Nonterminal.{Nonterminal}
 use Rattle.cl_tree.specs.declared.grammar.Symbol.{Symbol}
-use Rattle.cl_tree.specs.declared.grammar.Symbol.TheVariants.{Token, Node}
+use Rattle.cl_tree.specs.declared.grammar.Symbol.TheVariants.{Token, Node, Entry}
+use Rattle.cl_tree.specs.declared.nonterminal.Nonterminal.TheVariants as nt
 use Rattle.cl_tree.specs.declared.grammar.Separator.{Separator}
 use Rattle.cl_tree.specs.declared.grammar.Terminal.{Terminal}
 use Rattle.cl_expr.specs.declared.table.Label.{Label}
@@ -13,10 +15,10 @@ use Rattle.cl_tree.specs.declared.lexeme.Lexeme.{Lexeme}
 use Rattle.cl_tree.specs.declared.scope.Scope.{Scope}
 use Rattle.cl_tree.specs.Scopes.{class_at, pass, leave}
 use Rattle.cl_expr.specs.code.Table.{name_of, scoped, flat, turn, home, kinds, firsts}
-use Rattle.cl_tree.specs.Derives.{Has, start, end, parts, piece, last_token, Opened}
+use Rattle.cl_tree.specs.Derives.{Has, start, end, parts, piece, last_token, Opened, bad}
 use Rattle.cl_expr.specs.code.Paths.{name, node, Ended, Reads, ReadsAfter, Path, Kind, At}
 use Rattle.cl_expr.specs.code.Parses.{AllOf, Tall, BeginsSymbol, Begins, Enters}
-use Rattle.cl_expr.proofs.Conditions.{no_name, firsts_have, symbol_flat, flat_kind, flat_edge}
+use Rattle.cl_expr.proofs.Conditions.{no_name, firsts_have, symbol_flat, flat_kind, flat_edge, entry_class, firsts_entry}
 
 -- a tree of a kind from within: what is declared at its end, and its parts
 pub record Inside (cs : List Lexeme) (h : ℕ) (z : ℕ) (sa : Scope) (t : Tree) (sw : Scope) : Type 0 where
@@ -47,10 +49,20 @@ unfolding Tall
 tall_piece cs c zero at l = absurd (omega arith)
 tall_piece cs c (suc h) at l = subst (λ (x : Tree-F Tree). AllOf (Tall h) x.parts) (sym (out-roll-Tree (record { rule = _; choice = 0; from = at; to = last_token cs c at + 1; parts = [] }))) tt
 
+pub end_bad : (from to : ℕ) → end (bad from to) ≡ to
+end_bad from to = ap (λ x. x.to) (out-roll-Tree (record { rule = _; choice = 0; from = from; to = to; parts = [] }))
+
+pub tall_bad : (h from to : ℕ) → 1 ≤ h → Tall h (bad from to)
+unfolding Tall
+tall_bad zero from to l = absurd (omega arith)
+tall_bad (suc h) from to l = subst (λ (x : Tree-F Tree). AllOf (Tall h) x.parts) (sym (out-roll-Tree (record { rule = _; choice = 0; from = from; to = to; parts = [] }))) tt
+
 module _ (cs : List Lexeme) (h : ℕ) (f : (y : ℕ) (s' : Scope) (p : Tree) (w' : Scope) → Kind cs h y s' p w' → Tall h p) where
   tall_one : (x : Symbol) (y : ℕ) (s' : Scope) (at : ℕ) (p : Tree) (w' : Scope) → Reads (At cs h) h cs x y s' at p w' → Tall h p
   tall_one (Token c a) y s' at p w' r = subst (Tall h) (sym r.2) (tall_piece cs c h at r.1)
   tall_one (Node g) y s' at p w' r = f y s' p w' r.0.1
+  tall_one Entry y s' at p w' (inl r) = f y s' p w' r.0.1
+  tall_one Entry y s' at p w' (inr r) = subst (Tall h) (sym r.2) (tall_bad h at _ r.1)
 
   tall_after : (b : Option Separator) (x : Symbol) (y : ℕ) (s' : Scope) (at : ℕ) (p : Tree) (w' : Scope) → ReadsAfter (At cs h) h cs b x y s' at p w' → Tall h p
   tall_after None x y s' at p w' r = tall_one x y s' at p w' r
@@ -101,6 +113,7 @@ all_tall_le h k ts le a = all_map ts (λ p x. tall_le h k p le x) a
 module _ (cs : List Lexeme) (h k : ℕ) (f : (y : ℕ) (sa : Scope) (p : Tree) (sw : Scope) → flat (home y) ≡ true → Tall k p → Kind cs h y sa p sw → Kind cs k y sa p sw) where
   reads_fit : (x : Symbol) (y : ℕ) (sa : Scope) (at : ℕ) (p : Tree) (sw : Scope) → symbol_flat x ≡ true → Tall k p → Reads (At cs h) h cs x y sa at p sw → Reads (At cs k) k cs x y sa at p sw
   reads_fit (Token c a) y sa at p sw is tall r = (r.0, tall_some k p tall, r.2, r.3, r.4, r.5)
+  reads_fit Entry y sa at p sw is tall r = absurd (false≢true is)
   reads_fit (Node g) y sa at p sw is tall r = ((r.0.0, f y sa p sw (flat_kind g y is r.0.0) tall r.0.1, r.0.2), r.1)
 
   after_fit : (b : Option Separator) (x : Symbol) (y : ℕ) (sa : Scope) (at : ℕ) (p : Tree) (sw : Scope) → symbol_flat x ≡ true → Tall k p → ReadsAfter (At cs h) h cs b x y sa at p sw
@@ -141,6 +154,10 @@ symbol_by cs h f (Token c a) y sa at p sw r = record { class = r.3.0; token = r.
 symbol_by cs h f (Node b) y sa at p sw r =
     let o = f b y sa p sw r.0 in
     record { class = o.class; token = subst (λ (i : ℕ). class_at cs sa i ≡ Some o.class) r.1 o.token; begins = o.begins }
+symbol_by cs h f Entry y sa at p sw (inl r) =
+    let o = f nt.BlockItem y sa p sw r.0 in
+    record { class = o.class; token = subst (λ (i : ℕ). class_at cs sa i ≡ Some o.class) r.1 o.token; begins = firsts_entry nt.BlockItem o.class o.begins }
+symbol_by cs h f Entry y sa at p sw (inr r) = record { class = r.4.0; token = r.4.1; begins = entry_class r.4.0 r.4.2 }
 
 reads_by : (cs : List Lexeme) (h : ℕ) → FirstOf cs h
     → (b : Option Separator) (x : Symbol) (y : ℕ) (sa : Scope) (at : ℕ) (p : Tree) (sw : Scope) → ReadsAfter (At cs h) h cs b x y sa at p sw → First cs sa at (Begins b x)

@@ -3,7 +3,7 @@ use Rattle.std.specs.Prelude.{◌≡◌, ℕ, zero, suc, ◌≤◌, ◌<◌, ◌
 use Rattle.cl_tree.specs.declared.class.Class.{Class}
 use Rattle.cl_tree.specs.declared.nonterminal.Nonterminal.{Nonterminal}
 use Rattle.cl_tree.specs.declared.grammar.Symbol.{Symbol}
-use Rattle.cl_tree.specs.declared.grammar.Symbol.TheVariants.{Token, Node}
+use Rattle.cl_tree.specs.declared.grammar.Symbol.TheVariants.{Token, Node, Entry}
 use Rattle.cl_tree.specs.declared.grammar.Separator.{Separator}
 use Rattle.cl_expr.specs.declared.table.Edge.{Edge}
 use Rattle.cl_expr.specs.declared.table.Head.{Head}
@@ -17,7 +17,7 @@ use Rattle.cl_tree.specs.declared.lexeme.Lexeme.{Lexeme}
 use Rattle.cl_tree.specs.declared.scope.Scope.{Scope}
 use Rattle.cl_tree.specs.Scopes.{class_at, leave}
 use Rattle.cl_tree.specs.Grammar.{takes}
-use Rattle.cl_expr.specs.code.Table.{edges, scoped, home, corner, kinds, openers, suffixes, firsts, ends, goes}
+use Rattle.cl_expr.specs.code.Table.{edges, scoped, home, corner, kinds, openers, suffixes, firsts, ends, goes, entry_classes}
 use Rattle.cl_tree.specs.Derives.{Has, start, end, parts, Opened}
 use Rattle.cl_expr.specs.code.Paths.{name, node, Ended, ReadsAfter, Path, Kind, At}
 
@@ -34,6 +34,7 @@ Tall (suc k) t = AllOf (Tall k) (parts t)
 abbrev pub BeginsSymbol : Symbol → Class → Type 0
 BeginsSymbol (Token c a) k = Has (takes c) k
 BeginsSymbol (Node g) k = Has (firsts g) k
+BeginsSymbol Entry k = Has entry_classes k
 
 -- or the separator before it
 abbrev pub Begins : Option Separator → Symbol → Class → Type 0
@@ -55,6 +56,7 @@ Halts cs w q at = (k : Class) → class_at cs w at ≡ Some k → Has (ends q) k
 abbrev pub StopsSymbol : List Lexeme → Scope → Symbol → ℕ → Type 0
 StopsSymbol cs w (Token c a) at = Unit {0}
 StopsSymbol cs w (Node g) at = Stops cs w g at
+StopsSymbol cs w Entry at = Unit {0}
 
 abbrev pub Gives : Option Found → Tree → ℕ → Scope → Type 0
 Gives None t z w = ⊥
