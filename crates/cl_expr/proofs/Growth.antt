@@ -1,5 +1,5 @@
 -- What is no item of a block is something, and ends with the tokens at the latest.
-use Rattle.std.proofs.Common.{◌≡◌, ℕ, zero, suc, ◌+◌, ◌-◌, ◌≤◌, ◌<◌, List, arith, refl, sym, ◌∙◌, ap, subst, length, Bool, true, false, not}
+use Rattle.std.proofs.Common.{◌≡◌, ℕ, zero, suc, ◌+◌, ◌-◌, ◌≤◌, ◌<◌, List, arith, refl, sym, ◌∙◌, subst, length, Bool, true, false, not}
 use Rattle.std.specs.Prelude.{slice_get, nat_lt, cond, codes}
 use Rattle.std.proofs.lemmas.Bool.{ltb-true, false≢true}
 use Rattle.cl_expr.proofs.Checks.{not_true}

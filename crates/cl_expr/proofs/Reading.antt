@@ -24,7 +24,7 @@ use Rattle.cl_expr.proofs.Within.{class_within}
 use Rattle.cl_expr.specs.code.Table.{edges, name_of, bars, scoped, turn, home, corner}
 use Rattle.cl_tree.specs.Derives.{Has, start, end, parts, leaf, hole, piece, last_token, is_body, Closed, Opened, bad}
 use Rattle.cl_tree.specs.BadItems.{partner_of, closes_at, bad_end}
-use Rattle.cl_expr.specs.code.Paths.{name, node, Ended, Reads, ReadsAfter, Path, Kind, At}
+use Rattle.cl_expr.specs.code.Paths.{name, node, Ended, Reads, ReadsAfter, Path, At}
 use Rattle.cl_expr.specs.code.Parses.{AllOf, Tall, Begins, Enters, Halts, StopsSymbol, Parses, SoundPart, Part, Half, Builds}
 use Rattle.cl_expr.proofs.Checks.{some_is}
 use Rattle.cl_expr.proofs.Conditions.{Way, one_edge, more, on, held, shut, home_next, plain_next, entry_open, firsts_entry, entry_stops}

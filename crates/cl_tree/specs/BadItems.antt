@@ -1,5 +1,5 @@
 -- How far what is no item of a block goes.
-use Rattle.std.specs.Prelude.{ℕ, zero, suc, ◌+◌, ◌-◌, List, Option, Some, None, length, slice_get, Bool, true, false, cond, ◌||◌, not, nat_lt, codes}
+use Rattle.std.specs.Prelude.{ℕ, zero, suc, ◌+◌, ◌-◌, List, Option, Some, None, length, slice_get, Bool, false, cond, ◌||◌, not, nat_lt, codes}
 use Rattle.cl_base.specs.Tokens.{spells}
 use Rattle.cl_tree.specs.Brackets.{past_group}
 use Rattle.cl_tree.specs.declared.lexeme.Lexeme.{Lexeme}
