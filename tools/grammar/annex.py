@@ -1,15 +1,17 @@
-"""The grammar of N1570 A.2.1, A.2.2 and A.2.4, as it is laid out in the standard: what `specs/Grammar.antt` of cl_tree is written from.
+"""The grammar of N1570 A.2, as it is laid out in the standard: what `specs/Grammar.antt` of cl_tree is written from.
 
 U(nonterminal, others)                  a production whose right side is one nonterminal: its tree stands for it
 R(nonterminal, rule, choice, parts)     any other production: a node of this rule, with the number of the alternative
-A part is a symbol, opt(symbol) or many(symbol); `again` says what separates the members of a list.
+A part is a symbol, opt(symbol) or many(symbol); `again` says what separates the members of a list, `bar` which tokens may not follow, and
+`scoped` that what is declared in the node is gone after it. SHUNS says with which tokens a nonterminal may not begin.
 """
 CLASSES = ("Ident IdentColon TypedefName TypedefColon Constant String LeftParen TypeParen LiteralParen RightParen LeftBracket RightBracket LeftBrace RightBrace Dot Arrow PlusPlus MinusMinus "
   "Ampersand Star StarBracket Plus Minus Tilde Bang Slash Percent ShiftLeft ShiftRight Less Greater LessEqual GreaterEqual EqualEqual BangEqual Caret Bar AndAnd OrOr Question Colon Semicolon "
   "Ellipsis Comma LastComma DesignationComma Equal StarEqual SlashEqual PercentEqual PlusEqual MinusEqual ShiftLeftEqual ShiftRightEqual AmpersandEqual CaretEqual BarEqual "
   "Sizeof Alignof Generic Default Case If Else Switch While Do For Goto Continue Break Return StaticAssert Typedef Extern Static ThreadLocal Auto Register "
   "Void Char Short Int Long Float Double Signed Unsigned Bool Struct Union Enum Const Restrict Volatile Atomic AtomicParen Inline Noreturn Alignas Other").split()
-SETS = {'Name': 'Ident IdentColon TypedefName TypedefColon'.split(), 'Open': 'LeftParen TypeParen LiteralParen'.split(), 'TypeOpen': 'TypeParen LiteralParen'.split(), 'Typed': 'TypedefName TypedefColon'.split(), 'Body': ['LeftBrace']}
+SETS = {'Name': 'Ident IdentColon TypedefName TypedefColon'.split(), 'Open': 'LeftParen TypeParen LiteralParen'.split(), 'TypeOpen': 'TypeParen LiteralParen'.split(), 'Typed': 'TypedefName TypedefColon'.split(),
+  'Label': 'IdentColon TypedefColon'.split(), 'Marked': 'IdentColon TypedefName TypedefColon'.split(), 'Body': ['LeftBrace']}
 ACTS = 'Stay Typedef Name Declare Finish Forget Open Close Shut'.split()
 RULES_TREE = ("PrimaryExpression GenericSelection GenericAssocList GenericAssociation PostfixExpression ArgumentExpressionList UnaryExpression UnaryOperator CastExpression "
   "MultiplicativeExpression AdditiveExpression ShiftExpression RelationalExpression EqualityExpression AndExpression ExclusiveOrExpression InclusiveOrExpression "
@@ -21,7 +23,8 @@ RULES_TREE = ("PrimaryExpression GenericSelection GenericAssocList GenericAssoci
   "Statement LabeledStatement CompoundStatement BlockItemList BlockItem ExpressionStatement SelectionStatement IterationStatement JumpStatement "
   "TranslationUnit ExternalDeclaration FunctionDefinition").split()
 # nonterminals that aren't the standard's: a rule of it in one context
-EXTRA = "OtherSpecifier LaterTypeSpecifier LaterSpecifier ParameterDeclarator DirectParameterDeclarator AnyDeclarator DirectAnyDeclarator".split()
+EXTRA = ("OtherSpecifier LaterTypeSpecifier LaterSpecifier ParameterDeclarator DirectParameterDeclarator AnyDeclarator DirectAnyDeclarator "
+  "UnlabelledExpression PlainExpression BlockStatement BlockExpressionStatement BlockDeclaration BlockSpecifiers").split()
 def T(c, act='Stay'): return ('T', c, act)
 def N(g): return ('N', g)
 def opt(s): return ('?', s)
@@ -29,8 +32,8 @@ def many(s): return ('*', s)
 SECTION = []; UNITS = {}; PRODS = []
 def S(name, section): SECTION.append((len(PRODS), name, section))
 def U(g, *others): UNITS.setdefault(g, []).extend(others)
-def R(g, rule, choice, *parts, again=(), bars=()):
-    PRODS.append(dict(of=g, rule=rule, choice=choice, parts=[(p if p[0] in '?*' else ('1', p)) for p in parts], again=list(again), bars=list(bars)))
+def R(g, rule, choice, *parts, again=(), bar=None, scoped=False):
+    PRODS.append(dict(of=g, rule=rule, choice=choice, parts=[(p if p[0] in '?*' else ('1', p)) for p in parts], again=list(again), bar=bar, scoped=scoped))
 def members(g, member, act='Stay'): R(g, g, 0, N(member), again=[('Comma', act, 0)])
 EXPR, ASSIGN, CONST = N('Expression'), N('AssignmentExpression'), N('ConstantExpression')
 RP, RB, LB, SEMI, COMMA, COLON = T('RightParen'), T('RightBracket'), T('LeftBrace'), T('Semicolon'), T('Comma'), T('Colon')
@@ -77,7 +80,7 @@ S('Declarations', 'A.2.2')
 d = 'Declaration'
 R(d, d, 0, N('DeclarationSpecifiers'), opt(N('InitDeclaratorList')), T('Semicolon', 'Finish')); U(d, 'StaticAssertDeclaration')
 s = 'DeclarationSpecifiers'
-R(s, s, 0, N('OtherSpecifier'), many(N('OtherSpecifier')), bars=SETS['Typed']); R(s, s, 0, many(N('OtherSpecifier')), N('TypeSpecifier'), many(N('LaterSpecifier')))
+R(s, s, 0, N('OtherSpecifier'), many(N('OtherSpecifier')), bar='Typed'); R(s, s, 0, many(N('OtherSpecifier')), N('TypeSpecifier'), many(N('LaterSpecifier')))
 U('OtherSpecifier', 'StorageClassSpecifier', 'TypeQualifier', 'FunctionSpecifier', 'AlignmentSpecifier'); U('LaterSpecifier', 'OtherSpecifier', 'LaterTypeSpecifier')
 members('InitDeclaratorList', 'InitDeclarator', 'Declare')
 i_ = 'InitDeclarator'
@@ -95,7 +98,7 @@ R('StructDeclarationList', 'StructDeclarationList', 0, N('StructDeclaration'), m
 s = 'StructDeclaration'
 R(s, s, 0, N('SpecifierQualifierList'), opt(N('StructDeclaratorList')), T('Semicolon', 'Forget')); U(s, 'StaticAssertDeclaration')
 s = 'SpecifierQualifierList'
-R(s, s, 0, N('TypeQualifier'), many(N('TypeQualifier')), bars=SETS['Typed']); R(s, s, 0, many(N('TypeQualifier')), N('TypeSpecifier'), many(N('LaterQualifier')))
+R(s, s, 0, N('TypeQualifier'), many(N('TypeQualifier')), bar='Typed'); R(s, s, 0, many(N('TypeQualifier')), N('TypeSpecifier'), many(N('LaterQualifier')))
 U('LaterQualifier', 'TypeQualifier', 'LaterTypeSpecifier'); EXTRA.insert(3, 'LaterQualifier')
 members('StructDeclaratorList', 'StructDeclarator', 'Forget')
 s = 'StructDeclarator'
@@ -142,6 +145,29 @@ R('DesignatorList', 'DesignatorList', 0, N('Designator'), many(N('Designator')))
 R('Designator', 'Designator', 0, T('LeftBracket'), CONST, RB); R('Designator', 'Designator', 1, T('Dot'), NAME)
 R('StaticAssertDeclaration', 'StaticAssertDeclaration', 0, T('StaticAssert'), OPEN, CONST, COMMA, T('String'), many(T('String')), RP, SEMI)
 U('AnyDeclarator', 'ParameterDeclarator', 'AbstractDeclarator'); U('DirectAnyDeclarator', 'DirectParameterDeclarator', 'DirectAbstractDeclarator')
+
+S('Statements', 'A.2.3')
+STATEMENT = N('Statement'); IFPAREN = T('RightParen', 'Open')
+U('Statement', 'LabeledStatement', 'CompoundStatement', 'ExpressionStatement', 'SelectionStatement', 'IterationStatement', 'JumpStatement')
+l = 'LabeledStatement'
+R(l, l, 0, T('Label'), COLON, STATEMENT); R(l, l, 1, T('Case'), CONST, COLON, STATEMENT); R(l, l, 2, T('Default'), COLON, STATEMENT)
+R('CompoundStatement', 'CompoundStatement', 0, T('LeftBrace', 'Open'), opt(N('BlockItemList')), T('RightBrace', 'Close'))
+R('BlockItemList', 'BlockItemList', 0, N('BlockItem'), many(N('BlockItem')))
+U('BlockItem', 'BlockDeclaration', 'BlockStatement')
+R('ExpressionStatement', 'ExpressionStatement', 0, opt(N('UnlabelledExpression')), SEMI)
+s = 'SelectionStatement'
+R(s, s, 0, T('If'), OPEN, EXPR, IFPAREN, STATEMENT, bar='Else', scoped=True); R(s, s, 1, T('If'), OPEN, EXPR, IFPAREN, STATEMENT, T('Else', 'Close'), STATEMENT, scoped=True)
+R(s, s, 2, T('Switch'), OPEN, EXPR, RP, STATEMENT, scoped=True)
+i_ = 'IterationStatement'; FOREXPR = opt(N('PlainExpression'))
+R(i_, i_, 0, T('While'), OPEN, EXPR, RP, STATEMENT, scoped=True); R(i_, i_, 1, T('Do', 'Open'), STATEMENT, T('While', 'Close'), OPEN, EXPR, RP, SEMI, scoped=True)
+R(i_, i_, 2, T('For'), OPEN, FOREXPR, SEMI, opt(EXPR), SEMI, opt(EXPR), RP, STATEMENT, scoped=True); R(i_, i_, 3, T('For'), OPEN, N('Declaration'), opt(EXPR), SEMI, opt(EXPR), RP, STATEMENT, scoped=True)
+j = 'JumpStatement'
+R(j, j, 0, T('Goto'), NAME, SEMI); R(j, j, 1, T('Continue'), SEMI); R(j, j, 2, T('Break'), SEMI); R(j, j, 3, T('Return'), opt(EXPR), SEMI)
+U('UnlabelledExpression', 'Expression'); U('PlainExpression', 'Expression'); U('BlockSpecifiers', 'DeclarationSpecifiers')
+U('BlockStatement', 'LabeledStatement', 'CompoundStatement', 'BlockExpressionStatement', 'SelectionStatement', 'IterationStatement', 'JumpStatement')
+R('BlockExpressionStatement', 'ExpressionStatement', 0, FOREXPR, SEMI)
+R('BlockDeclaration', 'Declaration', 0, N('BlockSpecifiers'), opt(N('InitDeclaratorList')), T('Semicolon', 'Finish')); U('BlockDeclaration', 'StaticAssertDeclaration')
+SHUNS = dict(UnlabelledExpression='Label', PlainExpression='Marked', BlockSpecifiers='Label')
 
 S('External definitions', 'A.2.4')
 f = 'FunctionDefinition'

@@ -1,4 +1,4 @@
-"""Writes crates/cl_expr/src/table.rt, specs/Table.antt and proofs/All.antt from the places of the productions."""
+"""Writes crates/cl_expr/src/table.rt and *_rows.rt, specs/code/Table.antt and proofs/All.antt from the places of the productions."""
 import os
 from emit_tree import *
 from places import *
@@ -8,12 +8,6 @@ def w(f, s):
 order = lambda S: [c for c in CLASSES if c in S]
 def sep_rs(s): return 'None' if s is None else f'Some(Separator {{ class: Class::{s[0]}, act: Act::{s[1]} }})'
 def sep_a(s): return 'None' if s is None else f'(Some (record {{ class = cl.{s[0]}; act = ac.{s[1]} }}))'
-def wrap(items, width=130):
-    out = ''; line = '   '
-    for x in items:
-        if len(line) + len(x) + 2 > width: out += line + '\n'; line = '   '
-        line += ' ' + x + ','
-    return out + line + '\n'
 flat_edges = [e for q in P for e in q['edges']]
 def ranges(lists):
     at = 0; out = []
@@ -21,8 +15,17 @@ def ranges(lists):
     return out
 er = ranges([q['edges'] for q in P])
 kr = ranges([K[g] for g in GOALS]); orr = ranges([openers[g] for g in GOALS]); sr = ranges([suffixes[g] for g in GOALS]); SETS_OF = list(dict.fromkeys(tuple(order(F[g])) for g in GOALS)); sr_ = ranges(SETS_OF); fr = [sr_[SETS_OF.index(tuple(order(F[g])))] for g in GOALS]
+ROWS = '''// a list, in lines as they stand
+macro_rules! rows {
+    ($($row:expr),* $(,)?) => {
+        [$($row),*]
+    };
+}
+
+'''
 def chunked(name, ty, items, size, one_line=True):
-    return f'static {name}: [{ty}; {len(items)}] = [\n' + (wrap(items) if one_line else ''.join(f'    {x},\n' for x in items)) + '];\n\n'
+    if one_line: return f'static {name}: [{ty}; {len(items)}] = [\n' + wrap(items) + '];\n\n'
+    return f'static {name}: [{ty}; {len(items)}] = rows! {{\n' + wrap(items) + '};\n\n'
 def cterm(t): return f'Terminal::{t}' if t in SETS else f'is!({t})'
 def csym(s): return f'node!({s[1]})' if s[0] == 'N' else (f'token!({cterm(s[1])})' if s[2] == 'Stay' else f'act!({cterm(s[1])}, {s[2]})')
 def cedge(x):
@@ -83,7 +86,7 @@ macro_rules! after {
     };
 }
 
-'''
+''' + ROWS
 def fn(f, st, ty, doc): return f"/// {doc}.\npub fn {f}() -> &'static [{ty}]\n    ensures {{ result.now ≡ t.{f} }}\n{{\n    &{st}\n}}\n"
 q += chunked('EDGES', 'Edge', [cedge(x) for x in flat_edges], 0, False) + fn('all_edges', 'EDGES', 'Edge', 'The edges of all places, one place after the other')
 w('src/edge_rows.rt', q)
@@ -93,15 +96,16 @@ ghost use Rattle.std.specs.Prelude.{◌≡◌};
 ghost use Rattle.cl_expr.specs.code.Table as t;
 
 use crate::table::{Head, Label, Row, Ways};
-use cl_tree::{Nonterminal, Rule, Terminal};
+use cl_tree::{Class, Nonterminal, Rule, Terminal};
 
 macro_rules! row {
-    ($first:expr, $last:expr, $label:expr, $bar:expr, $corner:expr, $turning:expr, $named:expr) => {
+    ($first:expr, $last:expr, $label:expr, $bar:expr, $scoped:expr, $corner:expr, $turning:expr, $named:expr) => {
         Row {
             first: $first,
             last: $last,
             label: $label,
             bar: $bar,
+            scoped: $scoped,
             corner: $corner,
             turning: $turning,
             named: $named,
@@ -121,50 +125,64 @@ macro_rules! label {
 // a place in the midst of a production: its edges from one up to another
 macro_rules! inner {
     ($first:expr, $last:expr) => {
-        row!($first, $last, None, None, None, None, false)
+        row!($first, $last, None, None, false, None, None, false)
     };
 }
 
 // a place where a node may end
 macro_rules! ending {
     ($first:expr, $last:expr, $rule:ident, $choice:expr) => {
-        row!($first, $last, label!($rule, $choice), None, None, None, false)
+        row!($first, $last, label!($rule, $choice), None, false, None, None, false)
     };
 }
 
 // the same of a declarator that names something
 macro_rules! naming {
     ($first:expr, $last:expr, $rule:ident, $choice:expr) => {
-        row!($first, $last, label!($rule, $choice), None, None, None, true)
+        row!($first, $last, label!($rule, $choice), None, false, None, None, true)
     };
 }
 
 // a place where a node may end before anything but a typedef name
 macro_rules! untyped {
     ($first:expr, $last:expr, $rule:ident, $choice:expr) => {
-        row!($first, $last, label!($rule, $choice), Some(Terminal::Typed), None, None, false)
+        row!($first, $last, label!($rule, $choice), Some(Terminal::Typed), false, None, None, false)
+    };
+}
+
+// a place where a block may end
+macro_rules! scoped {
+    ($first:expr, $last:expr, $rule:ident, $choice:expr) => {
+        row!($first, $last, label!($rule, $choice), None, true, None, None, false)
+    };
+}
+
+// the same before anything but `else`
+macro_rules! without_else {
+    ($first:expr, $last:expr, $rule:ident, $choice:expr) => {
+        row!($first, $last, label!($rule, $choice), Some(Terminal::Is(Class::Else)), true, None, None, false)
     };
 }
 
 // a place where a production begins with a nonterminal that is read before
 macro_rules! corner {
     ($first:expr, $last:expr, $goal:ident, $next:expr) => {
-        row!($first, $last, None, None, Some(Head { goal: Nonterminal::$goal, next: $next }), None, false)
+        row!($first, $last, None, None, false, Some(Head { goal: Nonterminal::$goal, next: $next }), None, false)
     };
 }
 
 // a place after a declarator of a parameter
 macro_rules! turning {
     ($first:expr, $last:expr, $named:expr, $other:expr) => {
-        row!($first, $last, None, None, None, Some(Ways { named: $named, other: $other }), false)
+        row!($first, $last, None, None, false, None, Some(Ways { named: $named, other: $other }), false)
     };
 }
 
-'''
+''' + ROWS
 def row_rs(i, p):
     f = f'{er[i][0]}, {er[i][1]}'
     assert sum(map(bool, (p['name'], p['corner'], p['turn']))) <= 1
-    if p['name']: return f'{"untyped" if p["bars"] else "naming" if is_named[i] else "ending"}!({f}, {p["name"][0]}, {p["name"][1]})'
+    if p['name']: return f'{form(p, "naming" if is_named[i] else "ending")}!({f}, {p["name"][0]}, {p["name"][1]})'
     if p['corner']: return f'corner!({f}, {p["corner"][0]}, {p["corner"][1]})'
     if p['turn']: return f'turning!({f}, {p["turn"][0]}, {p["turn"][1]})'
     return f'inner!({f})'
@@ -188,25 +206,27 @@ macro_rules! span {
 }
 
 macro_rules! goal {
-    ($kinds:expr, $openers:expr, $suffixes:expr, $firsts:expr) => {
+    ($kinds:expr, $openers:expr, $suffixes:expr, $firsts:expr, $shuns:expr) => {
         GoalRow {
             kinds: $kinds,
             openers: $openers,
             suffixes: $suffixes,
             firsts: $firsts,
+            shuns: $shuns,
         }
     };
 }
 
-'''
+''' + ROWS
+def shun_rs(g): return f'Some({cterm(SHUNS[g])})' if g in SHUNS else 'None'
 sp = lambda r: f'span!({r[0]}, {r[1]})'
-q += chunked('GOALS', 'GoalRow', [f'goal!({sp(kr[i])}, {sp(orr[i])}, {sp(sr[i])}, {sp(fr[i])})' for i in range(len(GOALS))], 0, False)
+q += chunked('GOALS', 'GoalRow', [f'goal!({sp(kr[i])}, {sp(orr[i])}, {sp(sr[i])}, {sp(fr[i])}, {shun_rs(g)})' for i, g in enumerate(GOALS)], 0, False)
 q += chunked('KINDS', 'u16', [str(z) for g in GOALS for z in K[g]], 0)
 q += chunked('OPENERS', 'u16', [str(z) for g in GOALS for z in openers[g]], 0)
 q += chunked('SUFFIXES', 'u16', [str(z) for g in GOALS for z in suffixes[g]], 0)
 q += '\n'.join(fn(*x) for x in (('goal_rows', 'GOALS', 'GoalRow', 'The nonterminals'), ('all_kinds', 'KINDS', 'u16', 'The places where the trees of each nonterminal end'),
     ('all_openers', 'OPENERS', 'u16', 'The places at the left end of each nonterminal'), ('all_suffixes', 'SUFFIXES', 'u16', 'The places that go on from there')))
-w('src/goal_rows.rt', q.replace('use cl_tree::{Class, Span};', 'use cl_tree::Span;'))
+w('src/goal_rows.rt', q.replace('use cl_tree::{Class, Span};', 'use cl_tree::{Span, Terminal};'))
 q = '''//! The classes of tokens that begin each nonterminal. Written by tools/grammar/emit_expr.py.
 
 ghost use Rattle.std.specs.Prelude.{◌≡◌};
@@ -214,8 +234,8 @@ ghost use Rattle.cl_expr.specs.code.Table as t;
 
 use cl_tree::Class;
 
-'''
-q += chunked('FIRSTS', 'Class', [f'Class::{c}' for x in SETS_OF for c in x], 0) + fn('all_firsts', 'FIRSTS', 'Class', 'The classes of tokens that begin each nonterminal')
+''' + ROWS
+q += chunked('FIRSTS', 'Class', [f'Class::{c}' for x in SETS_OF for c in x], 0, False) + fn('all_firsts', 'FIRSTS', 'Class', 'The classes of tokens that begin each nonterminal')
 w('src/first_rows.rt', q)
 w('src/table.rt', '''//! Where the parser goes: places in the productions, as numbers of rows.
 
@@ -250,28 +270,30 @@ pub struct Ways {
     pub other: u16,
 }
 
-/// A place: its edges as a range of all of them, the node that may end there and what may not follow it then, the
-/// nonterminal with which its production begins if that is read before, the places after a part whose kind decides, and
-/// whether the node is a declarator that names something.
+/// A place: its edges as a range of all of them, the node that may end there, what may not follow it then and whether it is a
+/// block, the nonterminal with which its production begins if that is read before, the places after a part whose kind
+/// decides, and whether the node is a declarator that names something.
 #[derive(Clone, Copy)]
 pub struct Row {
     pub first: u16,
     pub last: u16,
     pub label: Option<Label>,
     pub bar: Option<Terminal>,
+    pub scoped: bool,
     pub corner: Option<Head>,
     pub turning: Option<Ways>,
     pub named: bool,
 }
 
-/// A nonterminal: the places where its trees end, those at its left end and those that go on from there, and the classes
-/// of tokens that begin it, as ranges.
+/// A nonterminal: the places where its trees end, those at its left end and those that go on from there, the classes of
+/// tokens that begin it, as ranges, and those that may not.
 #[derive(Clone, Copy)]
 pub struct GoalRow {
     pub kinds: Span,
     pub openers: Span,
     pub suffixes: Span,
     pub firsts: Span,
+    pub shuns: Option<Terminal>,
 }
 ''')
 A = '''-- The places in the productions. Written by tools/grammar/emit_expr.py; proofs/Conditions and proofs/Bridge check it against the productions.
@@ -301,13 +323,14 @@ pub record Item : Type 0 where
   pub production : ℕ
   pub behind : ℕ
 
--- a place: what may stand there, the node that may end there and what may not follow it, the nonterminal with which its production begins if that
--- is read before, the places after a part that turns on its kind, whether the node is a declarator that names something, the place where the
--- production begins, the tokens that go on from where the node may end, and the productions that are there
+-- a place: what may stand there, the node that may end there, what may not follow it and whether it is a block, the nonterminal with which its
+-- production begins if that is read before, the places after a part that turns on its kind, whether the node is a declarator that names something,
+-- the place where the production begins, the tokens that go on from where the node may end, and the productions that are there
 pub record Place : Type 0 where
   pub edges : List Edge
   pub label : Option Label
   pub bar : Option Terminal
+  pub scoped : Bool
   pub corner : Option Head
   pub turning : Option Ways
   pub named : Bool
@@ -315,13 +338,15 @@ pub record Place : Type 0 where
   pub ends : List Class
   pub items : List Item
 
--- a nonterminal: the places where its trees end, those at its left end, those that go on from there, the tokens that begin it and that go on from it
+-- a nonterminal: the places where its trees end, those at its left end, those that go on from there, the tokens that begin it, that go on from it
+-- and that may not begin it
 pub record Goal : Type 0 where
   pub kinds : List ℕ
   pub openers : List ℕ
   pub suffixes : List ℕ
   pub firsts : List Class
   pub goes : List Class
+  pub shuns : Option Terminal
 
 abbrev e : Symbol → ℕ → Edge
 e s n = record { before = None; symbol = s; next = n }
@@ -342,19 +367,20 @@ abbrev ways : ℕ → ℕ → Option Ways
 ways a b = Some (record { named = a; other = b })
 
 abbrev pub nowhere : Place
-nowhere = record { edges = []; label = None; bar = None; corner = None; turning = None; named = false; home = 0; ends = []; items = [] }
+nowhere = record { edges = []; label = None; bar = None; scoped = false; corner = None; turning = None; named = false; home = 0; ends = []; items = [] }
 
 abbrev pub nothing : Goal
-nothing = record { kinds = []; openers = []; suffixes = []; firsts = []; goes = [] }
+nothing = record { kinds = []; openers = []; suffixes = []; firsts = []; goes = []; shuns = None }
 
-abbrev row : List Edge → Option Label → Option Terminal → Option Head → Option Ways → Bool → ℕ → List Class → List Item → Place
-row es l b c t n h ends is = record { edges = es; label = l; bar = b; corner = c; turning = t; named = n; home = h; ends = ends; items = is }
+abbrev row : List Edge → Option Label → Option Terminal → Bool → Option Head → Option Ways → Bool → ℕ → List Class → List Item → Place
+row es l b s c t n h ends is = record { edges = es; label = l; bar = b; scoped = s; corner = c; turning = t; named = n; home = h; ends = ends; items = is }
 
 unfoldable pub places : List Place
 places =
 '''.replace('abbrev label : _ → ℕ', 'abbrev label : Rule → ℕ').replace('use Rattle.cl_tree.specs.declared.rule.Rule.TheVariants as ru', 'use Rattle.cl_tree.specs.declared.rule.Rule.{Rule}\nuse Rattle.cl_tree.specs.declared.rule.Rule.TheVariants as ru')
 def lst(xs): return '(' + ' ∷ '.join(xs + ['[]']) + ')' if xs else '[]'
-def tsym_a(s): return f'(Node nt.{s[1]})' if s[0] == 'N' else f'(Token {("te." + s[1]) if s[1] in SETS else "(te.Is cl." + s[1] + ")"} ac.{s[2]})'
+def tterm_a(t): return ("te." + t) if t in SETS else "(te.Is cl." + t + ")"
+def tsym_a(s): return f'(Node nt.{s[1]})' if s[0] == 'N' else f'(Token {tterm_a(s[1])} ac.{s[2]})'
 def edge_a(x):
     a, s, n = x
     return f'e {tsym_a(s)} {n}' if a is None else f'after (record {{ class = cl.{a[0]}; act = ac.{a[1]} }}) {tsym_a(s)} {n}'
@@ -362,10 +388,10 @@ for n, q in enumerate(P):
     if q['items']: A += f'    -- {n}: ' + '; '.join(show(*x) for x in q['items'][:2]) + (' ..' if len(q['items']) > 2 else '') + '\n'
     else: A += f'    -- {n}: ' + ('a token' if n == 0 else 'a declarator was read') + '\n'
     lab = f'(label ru.{q["name"][0]} {q["name"][1]})' if q['name'] else 'None'
-    A += f'    row {lst([edge_a(x) for x in q["edges"]])} {lab} {"(Some te.Typed)" if q["bars"] else "None"} {"(head nt.%s %d)" % q["corner"] if q["corner"] else "None"} {"(ways %d %d)" % q["turn"] if q["turn"] else "None"} {"true" if is_named[n] else "false"} {q["home"]} {lst(["cl." + c for c in order(ends[n])])} {lst(["i %d %d" % x for x in q["items"]])} ∷\n'
+    A += f'    row {lst([edge_a(x) for x in q["edges"]])} {lab} {"(Some %s)" % tterm_a(q["bar"]) if q["bar"] else "None"} {"true" if q["scoped"] else "false"} {"(head nt.%s %d)" % q["corner"] if q["corner"] else "None"} {"(ways %d %d)" % q["turn"] if q["turn"] else "None"} {"true" if is_named[n] else "false"} {q["home"]} {lst(["cl." + c for c in order(ends[n])])} {lst(["i %d %d" % x for x in q["items"]])} ∷\n'
 A += '    []\n\nunfoldable pub goals : List Goal\ngoals =\n'
 for g in GOALS:
-    A += f'    -- {g}\n    record {{ kinds = {lst([str(z) for z in K[g]])}; openers = {lst([str(z) for z in openers[g]])}; suffixes = {lst([str(z) for z in suffixes[g]])}; firsts = {lst(["cl." + c for c in order(F[g])])}; goes = {lst(["cl." + c for c in order(goes[g])])} }} ∷\n'
+    A += f'    -- {g}\n    record {{ kinds = {lst([str(z) for z in K[g]])}; openers = {lst([str(z) for z in openers[g]])}; suffixes = {lst([str(z) for z in suffixes[g]])}; firsts = {lst(["cl." + c for c in order(F[g])])}; goes = {lst(["cl." + c for c in order(goes[g])])}; shuns = {"Some %s" % tterm_a(SHUNS[g]) if g in SHUNS else "None"} }} ∷\n'
 A += '''    []
 
 -- the places where the productions begin, by the numbers of these
@@ -396,6 +422,10 @@ name_of q = (place q).label
 
 unfoldable pub bar_of : ℕ → Option Terminal
 bar_of q = (place q).bar
+
+-- whether the node that may end there is a block
+unfoldable pub scoped : ℕ → Bool
+scoped q = (place q).scoped
 
 unfoldable pub bars : ℕ → List Class
 bars q = barred (place q).bar
@@ -432,6 +462,9 @@ firsts g = (goal (number g)).firsts
 
 unfoldable pub goes : Nonterminal → List Class
 goes g = (goal (number g)).goes
+
+unfoldable pub shunned : Nonterminal → Option Terminal
+shunned g = (goal (number g)).shuns
 
 -- the place after a part
 abbrev pub turned : Option Ways → ℕ → Bool → ℕ
@@ -473,7 +506,7 @@ first_spans =
 
 abbrev rows_from : ℕ → List Place → List Row
 rows_from n [] = []
-rows_from n (p ∷ ps) = record { first = n; last = n + length p.edges; label = p.label; bar = p.bar; corner = p.corner; turning = p.turning; named = p.named } ∷ rows_from (n + length p.edges) ps
+rows_from n (p ∷ ps) = record { first = n; last = n + length p.edges; label = p.label; bar = p.bar; scoped = p.scoped; corner = p.corner; turning = p.turning; named = p.named } ∷ rows_from (n + length p.edges) ps
 
 abbrev span : ℕ → ℕ → Span
 span n k = record { from = n; to = n + k }
@@ -482,7 +515,7 @@ abbrev goal_rows_from : ℕ → ℕ → ℕ → List Span → List Goal → List
 goal_rows_from a b c spans [] = []
 goal_rows_from a b c [] (g ∷ gs) = []
 goal_rows_from a b c (s ∷ spans) (g ∷ gs) =
-    record { kinds = span a (length g.kinds); openers = span b (length g.openers); suffixes = span c (length g.suffixes); firsts = s }
+    record { kinds = span a (length g.kinds); openers = span b (length g.openers); suffixes = span c (length g.suffixes); firsts = s; shuns = g.shuns }
     ∷ goal_rows_from (a + length g.kinds) (b + length g.openers) (c + length g.suffixes) spans gs
 
 unfoldable pub rows : List Row
@@ -508,13 +541,14 @@ use Rattle.cl_expr.specs.code.Table.{number}
 
 '''
 for one, ty, m, xs in (('class', 'Class', 'cl', CLASSES), ('goal', 'Nonterminal', 'nt', GOALS), ('act', 'Act', 'ac', ACTS), ('rule', 'Rule', 'ru', ['Token', 'Hole', 'Bad'] + RULES_TREE)):
-    L += f'abbrev pub all_{one}s : List {ty}\nall_{one}s = {" ∷ ".join([m + "." + x for x in xs] + ["[]"])}\n\n'
+    many = 'classes' if one == 'class' else one + 's'
+    L += f'abbrev pub all_{many} : List {ty}\nall_{many} = {" ∷ ".join([m + "." + x for x in xs] + ["[]"])}\n\n'
     if one == 'goal': num = 'number'
     else:
         num = one + '_number'
         L += f'abbrev pub {num} : {ty} → ℕ\n' + ''.join(f'{num} {m}.{x} = {i}\n' for i, x in enumerate(xs)) + '\n'
-    L += f'pub numbered_{one} : (x : {ty}) → slice_get all_{one}s ({num} x) ≡ Some x\n' + ''.join(f'numbered_{one} {m}.{x} = refl\n' for i, x in enumerate(xs)) + '\n'
+    L += f'pub numbered_{one} : (x : {ty}) → slice_get all_{many} ({num} x) ≡ Some x\n' + ''.join(f'numbered_{one} {m}.{x} = refl\n' for i, x in enumerate(xs)) + '\n'
     L += f'some_{one} : {{x y : {ty}}} → Some x ≡ Some y → x ≡ y\nsome_{one} e = cc\n\n'
-    L += f'pub same_{one}_is : (x y : {ty}) → {num} x ≡ {num} y → x ≡ y\nsame_{one}_is x y e = some_{one} (sym (numbered_{one} x) ∙ ap (λ (n : ℕ). slice_get all_{one}s n) e ∙ numbered_{one} y)\n\n'
+    L += f'pub same_{one}_is : (x y : {ty}) → {num} x ≡ {num} y → x ≡ y\nsame_{one}_is x y e = some_{one} (sym (numbered_{one} x) ∙ ap (λ (n : ℕ). slice_get all_{many} n) e ∙ numbered_{one} y)\n\n'
 w('proofs/All.antt', L.rstrip() + '\n')
 if __name__ == '__main__': print(len(flat_edges), len(P))

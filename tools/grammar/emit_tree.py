@@ -13,10 +13,13 @@ SECTIONS = dict(PrimaryExpression='6.5.1', GenericSelection='6.5.1.1', GenericAs
   ParameterTypeList='6.7.6', ParameterList='6.7.6', ParameterDeclaration='6.7.6', IdentifierList='6.7.6', TypeName='6.7.7', AbstractDeclarator='6.7.7', DirectAbstractDeclarator='6.7.7', TypedefName='6.7.8',
   Initializer='6.7.9', InitializerList='6.7.9', Designation='6.7.9', DesignatorList='6.7.9', Designator='6.7.9', StaticAssertDeclaration='6.7.10',
   Statement='6.8', LabeledStatement='6.8.1', CompoundStatement='6.8.2', BlockItemList='6.8.2', BlockItem='6.8.2', ExpressionStatement='6.8.3', SelectionStatement='6.8.4', IterationStatement='6.8.5', JumpStatement='6.8.6',
-  TranslationUnit='6.9', ExternalDeclaration='6.9', FunctionDefinition='6.9.1', AnyDeclarator='6.7.6', DirectAnyDeclarator='6.7.6')
+  UnlabelledExpression='6.8.3', PlainExpression='6.8.3', BlockStatement='6.8.2', BlockExpressionStatement='6.8.2', BlockDeclaration='6.8.2', BlockSpecifiers='6.8.2', TranslationUnit='6.9', ExternalDeclaration='6.9', FunctionDefinition='6.9.1', AnyDeclarator='6.7.6', DirectAnyDeclarator='6.7.6')
 EXTRA_DOC = dict(OtherSpecifier='A specifier of a declaration that is no type specifier', LaterSpecifier='A specifier of a declaration after a type specifier', LaterTypeSpecifier='A type specifier that is no typedef name: any after another one',
   LaterQualifier='A qualifier, or a type specifier after another one', ParameterDeclarator='A declarator of a parameter: after its `(` a type begins parameters', DirectParameterDeclarator='A direct-declarator of a parameter',
-  AnyDeclarator='A declarator of a parameter, or an abstract one', DirectAnyDeclarator='A direct-declarator of a parameter, or an abstract one')
+  AnyDeclarator='A declarator of a parameter, or an abstract one', DirectAnyDeclarator='A direct-declarator of a parameter, or an abstract one',
+  UnlabelledExpression='An expression that begins with no label: that of an expression statement', PlainExpression='An expression that begins with no label and no typedef name: where a declaration may stand too',
+  BlockStatement='A statement of a block: it begins with no typedef name', BlockExpressionStatement='An expression-statement of a block', BlockDeclaration='A declaration of a block: it begins with no label',
+  BlockSpecifiers='The specifiers of a declaration of a block')
 import re
 def dashed(n): return re.sub(r'(?<=[a-z])(?=[A-Z])', '-', n).lower().replace('and-expression', 'AND-expression') if n == 'AndExpression' else re.sub(r'(?<=[a-z])(?=[A-Z])', '-', n).lower()
 STD = {'GenericAssocList': 'generic-assoc-list', 'AndExpression': 'AND-expression', 'ExclusiveOrExpression': 'exclusive-OR-expression', 'InclusiveOrExpression': 'inclusive-OR-expression', 'LogicalAndExpression': 'logical-AND-expression',
@@ -33,10 +36,17 @@ def sym_rs(s): return f'Symbol::Node(Nonterminal::{s[1]})' if s[0] == 'N' else f
 def term_rs(t): return f'Terminal::{t}' if t in SETS else f'Terminal::Is(Class::{t})'
 def term_a(t): return f'te.{t}' if t in SETS else f'(is cl.{t})'
 def sym_a(s): return f'(n nt.{s[1]})' if s[0] == 'N' else (f'(t {term_a(s[1])})' if s[2] == 'Stay' else f'(act {term_a(s[1])} ac.{s[2]})')
+def form(p, plain): return {(None, False): plain, ('Typed', False): 'untyped', (None, True): 'scoped', ('Else', True): 'without_else'}[(p['bar'], p['scoped'])]
 PART = {'1': 'One', '?': 'Optional', '*': 'Many'}
 PART_A = {'1': 'one', '?': 'opt', '*': 'many'}
 def w(f, s):
     f = os.path.join(ROOT, f); os.makedirs(os.path.dirname(f), exist_ok=True); open(f, 'w').write(s)
+def wrap(items, width=130):
+    out = ''; line = '   '
+    for x in items:
+        if len(line) + len(x) + 2 > width: out += line + '\n'; line = '   '
+        line += ' ' + x + ','
+    return out + line + '\n'
 def enum(name, doc, items, derive='Clone, Copy, Debug, PartialEq, Eq'):
     return f'/// {doc}\n#[derive({derive})]\npub enum {name} {{\n' + ''.join(f'    /// {d}.\n    {x},\n' for x, d in items) + '}\n'
 if __name__ == '__main__':
@@ -44,9 +54,9 @@ if __name__ == '__main__':
       [('Token', 'One token'), ('Hole', 'A range that another parser reads'), ('Bad', 'Tokens that are no item of a block')] + [(r, f'{std(r)} ({SECTIONS[r]})') for r in RULES_TREE]))
     w('src/class.rt', enum('Class', 'What the grammar tells of a token. Some classes look at the token after it, and at the partner of a `(`.',
       [(c, CLASS_DOC.get(c) or ('`' + (SPELL[c] if c in SPELL else word(c)) + '`')) for c in CLASSES]))
-    w('src/nonterminal.rt', enum('Nonterminal', 'A nonterminal of the grammar: those of N1570 A.2.1, A.2.2 and A.2.4, and some that tell apart where one of them stands.',
+    w('src/nonterminal.rt', enum('Nonterminal', 'A nonterminal of the grammar: those of N1570 A.2, and some that tell apart where one of them stands.',
       [(g, (EXTRA_DOC[g] if g in EXTRA_DOC else std(g)) + f' ({SECTIONS[g]})') for g in GOALS]))
-    o = '''//! The grammar of expressions, declarations and function definitions: N1570 A.2.1, A.2.2 and A.2.4, in the standard's order.
+    o = '''//! The grammar of expressions, declarations, statements and function definitions: N1570 A.2, in the standard's order.
 
 ghost use Rattle.std.specs.Prelude.{◌≡◌, map};
 ghost use Rattle.cl_tree.specs.Grammar as g;
@@ -56,9 +66,9 @@ use crate::nonterminal::Nonterminal;
 use crate::rule::Rule;
 
 '''
-    o += enum('Terminal', 'The tokens that a production takes at a place.', [('Is(Class)', 'Those of one class'), ('Name', 'An identifier, a typedef name too'), ('Open', 'Any `(`'), ('TypeOpen', '`(` before what may begin a type'), ('Typed', 'A typedef name'), ('Body', '`{` with all up to its partner: a body, which is read as one part')], 'Clone, Copy') + '\n'
+    o += enum('Terminal', 'The tokens that a production takes at a place.', [('Is(Class)', 'Those of one class'), ('Name', 'An identifier, a typedef name too'), ('Open', 'Any `(`'), ('TypeOpen', '`(` before what may begin a type'), ('Typed', 'A typedef name'), ('Label', 'An identifier directly before `:`'), ('Marked', 'An identifier that is a typedef name, or stands directly before `:`'), ('Body', '`{` with all up to its partner: a body, which is read as one part')], 'Clone, Copy') + '\n'
     o += enum('Act', 'What reading a token does to the names that are declared.', [('Stay', 'Nothing'), ('Typedef', 'What is declared from here on is a typedef name'), ('Name', 'The token is the name that is being declared'), ('Declare', 'The name that is being declared is so from here on'),
-      ('Finish', 'The same, and what is declared after it is no typedef name'), ('Forget', 'The name that is being declared is a member and hides nothing'), ('Open', 'A list of parameters, members or enumerators begins'), ('Close', 'A list of parameters ends, and its names with it'), ('Shut', 'A list of members or enumerators ends; its names stay')], 'Clone, Copy') + '\n'
+      ('Finish', 'The same, and what is declared after it is no typedef name'), ('Forget', 'The name that is being declared is a member and hides nothing'), ('Open', 'A list of parameters, members or enumerators begins, or a block'), ('Close', 'A list of parameters or a block ends, and its names with it'), ('Shut', 'A list of members or enumerators ends; its names stay')], 'Clone, Copy') + '\n'
     o += '''/// A symbol of a right side.
 #[derive(Clone, Copy)]
 pub enum Symbol {
@@ -101,7 +111,7 @@ pub struct Span {
 }
 
 /// A production that makes a node: its nonterminal, the node's rule and the number of the alternative, from 0, its right side
-/// in `parts()`, how a list goes on in `agains()`, and whether a typedef name may follow.
+/// in `parts()`, how a list goes on in `agains()`, which tokens may not follow, and whether what is declared in it is gone after it.
 #[derive(Clone, Copy)]
 pub struct Production {
     pub of: Nonterminal,
@@ -109,7 +119,8 @@ pub struct Production {
     pub choice: u8,
     pub parts: Span,
     pub again: Span,
-    pub typed: bool,
+    pub bar: Option<Terminal>,
+    pub scoped: bool,
 }
 
 /// A production whose right side is one nonterminal: its tree stands for the other one.
@@ -169,8 +180,15 @@ macro_rules! again {
     };
 }
 
+// a list, in lines as they stand
+macro_rules! rows {
+    ($($row:expr),* $(,)?) => {
+        [$($row),*]
+    };
+}
+
 """
-    q += f'static PARTS: [Part; {len(flat)}] = [\n' + ''.join(f'    Part::{PART[k]}({csym(x)}),\n' for k, x in flat) + '];\n\n'
+    q += f'static PARTS: [Part; {len(flat)}] = rows! {{\n' + ''.join(wrap([f'Part::{PART[k]}({csym(x)})' for k, x in p['parts']]) for p in PRODS) + '};\n\n'
     q += f'static AGAIN: [Again; {len(more)}] = [\n' + ''.join(f'    again!({c}, {x}, {i}),\n' for c, x, i in more) + '];\n\n'
     q += """/// The parts of the right sides, one production's after the other's.
 pub fn parts() -> &'static [Part]
@@ -193,13 +211,13 @@ pub fn agains() -> &'static [Again]
 ghost use Rattle.std.specs.Prelude.{◌≡◌, map};
 ghost use Rattle.cl_tree.specs.Grammar as g;
 
-use crate::grammar::{Production, Span, Unit};
+use crate::class::Class;
+use crate::grammar::{Production, Span, Terminal, Unit};
 use crate::nonterminal::Nonterminal;
 use crate::rule::Rule;
 
-// a production, with its right side from one part up to another
-macro_rules! made {
-    ($of:ident, $rule:ident, $choice:expr, $from:expr, $to:expr) => {
+macro_rules! row {
+    ($of:ident, $rule:ident, $choice:expr, $from:expr, $to:expr, $bar:expr, $scoped:expr) => {
         Production {
             of: Nonterminal::$of,
             rule: Rule::$rule,
@@ -209,25 +227,37 @@ macro_rules! made {
                 to: $to,
             },
             again: Span { from: 0, to: 0 },
-            typed: true,
+            bar: $bar,
+            scoped: $scoped,
         }
+    };
+}
+
+// a production, with its right side from one part up to another
+macro_rules! made {
+    ($of:ident, $rule:ident, $choice:expr, $from:expr, $to:expr) => {
+        row!($of, $rule, $choice, $from, $to, None, false)
     };
 }
 
 // a production after which no typedef name may stand
 macro_rules! untyped {
     ($of:ident, $rule:ident, $choice:expr, $from:expr, $to:expr) => {
-        Production {
-            of: Nonterminal::$of,
-            rule: Rule::$rule,
-            choice: $choice,
-            parts: Span {
-                from: $from,
-                to: $to,
-            },
-            again: Span { from: 0, to: 0 },
-            typed: false,
-        }
+        row!($of, $rule, $choice, $from, $to, Some(Terminal::Typed), false)
+    };
+}
+
+// a statement that is a block
+macro_rules! scoped {
+    ($of:ident, $rule:ident, $choice:expr, $from:expr, $to:expr) => {
+        row!($of, $rule, $choice, $from, $to, None, true)
+    };
+}
+
+// a statement that is a block, after which no `else` may stand
+macro_rules! without_else {
+    ($of:ident, $rule:ident, $choice:expr, $from:expr, $to:expr) => {
+        row!($of, $rule, $choice, $from, $to, Some(Terminal::Is(Class::Else)), true)
     };
 }
 
@@ -246,7 +276,8 @@ macro_rules! list {
                 from: $again,
                 to: $end,
             },
-            typed: true,
+            bar: None,
+            scoped: false,
         }
     };
 }
@@ -266,7 +297,7 @@ macro_rules! unit {
         f, m = at; at[0] += len(p['parts']); at[1] += len(p['again'])
         n = f'{p["of"]}, {p["rule"]}'
         if p['again']: return f'    list!({n}, {f}, {at[0]}, {m}, {at[1]}),\n'
-        return f'    {"untyped" if p["bars"] else "made"}!({n}, {p["choice"]}, {f}, {at[0]}),\n'
+        return f'    {form(p, "made")}!({n}, {p["choice"]}, {f}, {at[0]}),\n'
     q += f'static PRODUCTIONS: [Production; {len(PRODS)}] = [\n' + ''.join(prod_rs(p) for p in PRODS) + '];\n\n'
     q += f'static UNITS: [Unit; {len(units)}] = [\n' + ''.join(f'    unit!({g}, {u}),\n' for g, u in units) + '];\n\n'
     q += """/// The productions that make a node, in the order of N1570 A.2.
@@ -284,9 +315,9 @@ pub fn units() -> &'static [Unit]
 }
 """
     w('src/production_rows.rt', q)
-    a = '''-- The grammar of expressions, declarations and function definitions: N1570 A.2.1, A.2.2 and A.2.4, in the standard's order and with its section numbers.
+    a = '''-- The grammar of expressions, declarations, statements and function definitions: N1570 A.2, in the standard's order and with its section numbers.
 -- Written by tools/grammar/emit_tree.py from tools/grammar/annex.py.
-use Rattle.std.specs.Prelude.{ℕ, List, [], ◌∷◌, ◌++◌, Option, Some, None, cond, slice_range}
+use Rattle.std.specs.Prelude.{ℕ, List, [], ◌∷◌, ◌++◌, Option, Some, None, Bool, true, false, slice_range}
 use Rattle.cl_tree.specs.declared.class.Class.{Class}
 use Rattle.cl_tree.specs.declared.class.Class.TheVariants as cl
 use Rattle.cl_tree.specs.declared.rule.Rule.{Rule}
@@ -305,7 +336,8 @@ use Rattle.cl_tree.specs.declared.grammar.Again.{Again}
 use Rattle.cl_tree.specs.declared.grammar.Unit.{Unit as UnitRow}
 use Rattle.cl_tree.specs.declared.grammar.Production.{Production as ProductionRow}
 
--- a production: its nonterminal, the rule and number of its node, its right side, how a list goes on, and which tokens may not follow
+-- a production: its nonterminal, the rule and number of its node, its right side, how a list goes on, which tokens may not follow, and whether what
+-- is declared in the node is gone after it
 pub record Production : Type 0 where
   pub of : Nonterminal
   pub rule : Rule
@@ -313,7 +345,7 @@ pub record Production : Type 0 where
   pub parts : List Part
   pub again : List Again
   pub bar : Option Terminal
-
+  pub scoped : Bool
 
 -- the classes of tokens that a terminal stands for
 abbrev pub takes : Terminal → List Class
@@ -344,18 +376,26 @@ abbrev pub many : Symbol → Part
 many x = Many x
 
 abbrev pub production : Nonterminal → Rule → ℕ → List Part → Production
-production g r c ps = record { of = g; rule = r; choice = c; parts = ps; again = []; bar = None }
+production g r c ps = record { of = g; rule = r; choice = c; parts = ps; again = []; bar = None; scoped = false }
 
 -- a list whose members are separated
 abbrev pub separated : Class → Act → ℕ → Again
 separated k a i = record { separator = record { class = k; act = a }; part = i }
 
 abbrev pub listed : Nonterminal → Rule → List Part → List Again → Production
-listed g r ps more = record { of = g; rule = r; choice = 0; parts = ps; again = more; bar = None }
+listed g r ps more = record { of = g; rule = r; choice = 0; parts = ps; again = more; bar = None; scoped = false }
 
 -- a production after which no typedef name may stand
 abbrev pub untyped : Nonterminal → Rule → ℕ → List Part → Production
-untyped g r c ps = record { of = g; rule = r; choice = c; parts = ps; again = []; bar = Some te.Typed }
+untyped g r c ps = record { of = g; rule = r; choice = c; parts = ps; again = []; bar = Some te.Typed; scoped = false }
+
+-- a statement that is a block (6.8.4p3, 6.8.5p5)
+abbrev pub scoped : Nonterminal → Rule → ℕ → List Part → Production
+scoped g r c ps = record { of = g; rule = r; choice = c; parts = ps; again = []; bar = None; scoped = true }
+
+-- a statement that is a block, after which no `else` may stand: an `else` goes with the nearest `if` (6.8.4.1p3)
+abbrev pub without_else : Nonterminal → Rule → ℕ → List Part → Production
+without_else g r c ps = record { of = g; rule = r; choice = c; parts = ps; again = []; bar = Some (te.Is cl.Else); scoped = true }
 
 abbrev pub unit : Nonterminal → Nonterminal → UnitRow
 unit g u = record { of = g; by = u }
@@ -373,11 +413,14 @@ productions =
         if p['again']:
             ag = ' ∷ '.join([f'separated cl.{c} ac.{x} {i}' for c, x, i in p['again']] + ['[]'])
             a += f'    listed nt.{p["of"]} ru.{p["rule"]} ({ps}) ({ag}) ∷\n'
-        else: a += f'    {"untyped" if p["bars"] else "production"} nt.{p["of"]} ru.{p["rule"]} {p["choice"]} ({ps}) ∷\n'
+        else: a += f'    {form(p, "production")} nt.{p["of"]} ru.{p["rule"]} {p["choice"]} ({ps}) ∷\n'
     a += '    []\n\n-- the productions whose right side is one nonterminal: they make no node\nunfoldable pub units : List UnitRow\nunits =\n'
     for g, u in units: a += f'    unit nt.{g} nt.{u} ∷\n'
     a += '''    []
 
+-- the tokens with which no tree of a nonterminal begins: where a label or a declaration may stand, an identifier is that (6.8.1, 6.8.2)
+unfoldable pub shuns : Nonterminal → Option Terminal
+SHUNS_HERE
 abbrev pub parts_of : List Production → List Part
 parts_of [] = []
 parts_of (p ∷ ps) = p.parts ++ parts_of ps
@@ -394,6 +437,7 @@ unfoldable pub all_agains : List Again
 all_agains = agains_of productions
 
 abbrev pub plain : ProductionRow → Production
-plain p = record { of = p.of; rule = p.rule; choice = p.choice; parts = slice_range all_parts p.parts.from p.parts.to; again = slice_range all_agains p.again.from p.again.to; bar = cond p.typed None (Some te.Typed) }
+plain p = record { of = p.of; rule = p.rule; choice = p.choice; parts = slice_range all_parts p.parts.from p.parts.to; again = slice_range all_agains p.again.from p.again.to; bar = p.bar; scoped = p.scoped }
 '''
+    a = a.replace('SHUNS_HERE', ''.join(f'shuns nt.{g} = Some {term_a(t)}\n' for g, t in SHUNS.items()) + 'shuns _ = None\n')
     w('specs/Grammar.antt', a)

@@ -9,6 +9,8 @@ for g in list(dict.fromkeys([p['of'] for p in PRODS] + list(UNITS))):
 GOALS = [g for g in RULES_TREE if g in GOALS] + [g for g in EXTRA if g in GOALS]
 assert set(GOALS) == set(p['of'] for p in PRODS) | set(UNITS)
 def takes(t): return SETS.get(t, [t])
+def barred(q): return set(takes(q['bar'])) if q['bar'] else set()
+def shunned(g): return set(takes(SHUNS[g])) if g in SHUNS else set()
 # productions that begin with a nonterminal that is read before it is known which of them it is
 CORNERS = {'PostfixExpression', 'ConditionalExpression', 'AssignmentExpression', 'Expression', 'InitDeclarator', 'StructDeclarator', 'Declarator', 'ParameterDeclarator', 'AbstractDeclarator',
   'DirectDeclarator', 'DirectParameterDeclarator', 'DirectAbstractDeclarator', 'ParameterTypeList', 'ParameterDeclaration', 'TypeName'} | {b for b, _ in BINARY}
@@ -36,15 +38,15 @@ def place(home, items):
     key = (home, frozenset(items))
     if key in INDEX: return INDEX[key]
     n = len(P); INDEX[key] = n
-    P.append(dict(home=n if home is None else home, items=sorted(items), edges=[], name=None, bars=[], corner=None, turn=None))
+    P.append(dict(home=n if home is None else home, items=sorted(items), edges=[], name=None, bar=None, scoped=False, corner=None, turn=None))
     if home is not None: fill(n)
     return n
 def fill(n):
     q = P[n]; home = q['home']
-    ended = {(PRODS[i]['rule'], PRODS[i]['choice'], tuple(PRODS[i]['bars'])) for i, d in q['items'] if endable(PRODS[i], d)}
+    ended = {(PRODS[i]['rule'], PRODS[i]['choice'], PRODS[i]['bar'], PRODS[i]['scoped']) for i, d in q['items'] if endable(PRODS[i], d)}
     assert len(ended) <= 1, (n, ended)
     if ended:
-        r, c, b = ended.pop(); q['name'] = (r, c); q['bars'] = list(b)
+        r, c, b, l = ended.pop(); q['name'] = (r, c); q['bar'] = b; q['scoped'] = l
     groups = {}; order = []
     for i, d in q['items']:
         for sep, s, d2 in nexts(PRODS[i], d):
@@ -59,13 +61,13 @@ def fill(n):
                 t = other[0]; done |= {(sep, s), t}
                 pd, ad = (s, t[1]) if 'Parameter' in s[1] else (t[1], s)
                 m = N(MERGED[frozenset((s[1], t[1][1]))])
-                turn = len(P); P.append(dict(home=home, items=[], edges=[], name=None, bars=[], corner=None, turn=None))
+                turn = len(P); P.append(dict(home=home, items=[], edges=[], name=None, bar=None, scoped=False, corner=None, turn=None))
                 q['edges'].append((sep, m, turn))
                 P[turn]['turn'] = (place(home, groups[(sep, pd)]), place(home, groups[(sep, ad)]))
                 continue
         done.add((sep, s))
         q['edges'].append((sep, s, place(home, groups[(sep, s)])))
-P.append(dict(home=0, items=[], edges=[], name=None, bars=[], corner=None, turn=None))     # 0: a token's leaf
+P.append(dict(home=0, items=[], edges=[], name=None, bar=None, scoped=False, corner=None, turn=None))     # 0: a token's leaf
 HOMES = {}
 for i, p in enumerate(PRODS):
     HOMES.setdefault((GROUP.get(p['of'], p['of']), corner_of(p)), []).append((i, 0))
@@ -120,7 +122,7 @@ while ch:
     ch = False
     for g in GOALS:
         for z in K[g]:
-            X = entering(home[z])
+            X = entering(home[z]) - shunned(g)
             if not X <= F[g]: F[g] |= X; ch = True
 ends = [set() for q in P]; goes = {g: set() for g in GOALS}
 ch = True
@@ -130,12 +132,12 @@ def add_to(A, X):
 while ch:
     ch = False
     for q in range(len(P)):
-        if P[q]['name']: add_to(ends[q], entering(q) - set(P[q]['bars']))
+        if P[q]['name']: add_to(ends[q], entering(q) - barred(P[q]))
         for sep, s, n in P[q]['edges']:
             for z in ways(s):
                 q2 = turn(n, z)
                 add_to(ends[q], ends[q2])
-                if s[0] == 'N' and P[q2]['name']: add_to(ends[q], goes[s[1]] - set(P[q2]['bars']))
+                if s[0] == 'N' and P[q2]['name']: add_to(ends[q], goes[s[1]] - barred(P[q2]))
     for g in GOALS:
         for z in K[g]: add_to(goes[g], ends[home[z]])
         for s in suffixes[g]:
@@ -163,6 +165,10 @@ for g in GOALS:
         for j in range(i):
             a, b = P[S_[i]]['corner'], P[S_[j]]['corner']
             if set(K[a[0]]) & set(K[b[0]]) and entering(a[1]) & entering(b[1]): bad.append(('suffixes', g, S_[i], S_[j], entering(a[1]) & entering(b[1])))
+for z, q in enumerate(P):
+    if q['scoped'] and (ends[home[z]] or P[home[z]]['corner']): bad.append(('scoped', z, ends[home[z]]))
+for q in P:
+    if q['corner'] and q['corner'][0] in SHUNS: bad.append(('corner', q['corner']))
 def show(i, d):
     p = PRODS[i]
     t = []

@@ -1,4 +1,4 @@
-"""Trees of expressions and declarations by a parser of its own, which shares nothing with the tables. Writes crates/cl_tree_cases/stdout from
+"""Trees of expressions, declarations and statements by a parser of its own, which shares nothing with the tables. Writes crates/cl_tree_cases/stdout from
 the cases in cases.txt; pycparser says beside it which texts of C99 are none, and clang what type each declarator puzzle has."""
 import re, sys, os, subprocess, tempfile
 TOK = re.compile(r'\s*([A-Za-z_]\w*|\d[\w.]*|"[^"]*"|\'[^\']*\'|\.\.\.|<<=|>>=|->|\+\+|--|<<|>>|<=|>=|==|!=|&&|\|\||[-+*/%&|^]=|[-+*/%&|^~!<>=?:;,.(){}\[\]])')
@@ -274,7 +274,44 @@ class P:
             d, n = s.declarator(); s.declare(n, typing)
             ds.append(node('InitDeclarator', 1, d, s.eat(), s.init()) if s.at() == '=' else d)
         return node('Declaration', 0, q, *([node('InitDeclaratorList', 0, *ds)] if ds else []), s.eat())
-GOALS = {'expression': P.expr, 'declaration': P.declaration, 'type name': P.type_name}
+    def block(s, read):
+        """What `read` reads, with its names gone after it (6.8.2 to 6.8.5)."""
+        s.scopes.append({}); t = read(); s.scopes.pop(); return t
+    def is_declaration(s): return s.at() == '_Static_assert' or s.is_type(0)
+    def is_label(s):
+        t = s.at(); return t is not None and re.match(r'[A-Za-z_]', t) and t not in KW and s.at(1) == ':'
+    def block_item(s):
+        return s.declaration() if s.is_declaration() and not s.is_label() else s.statement()
+    def maybe(s, end): return [] if s.at() == end else [s.expr()]
+    def statement(s):
+        t = s.at()
+        if s.is_label(): return node('LabeledStatement', 0, s.eat(), s.eat(), s.statement())
+        if t == 'case': return node('LabeledStatement', 1, s.eat(), s.cond()[0], s.eat(':'), s.statement())
+        if t == 'default': return node('LabeledStatement', 2, s.eat(), s.eat(':'), s.statement())
+        if t == '{': return s.block(s.compound)
+        if t in ('if', 'switch'): return s.block(s.selection)
+        if t in ('while', 'do', 'for'): return s.block(s.iteration)
+        if t == 'goto': return node('JumpStatement', 0, s.eat(), s.ident(), s.eat(';'))
+        if t in ('continue', 'break'): return node('JumpStatement', 1 if t == 'continue' else 2, s.eat(), s.eat(';'))
+        if t == 'return': return node('JumpStatement', 3, s.eat(), *s.maybe(';'), s.eat(';'))
+        return node('ExpressionStatement', 0, *s.maybe(';'), s.eat(';'))
+    def compound(s):
+        o = s.eat(); items = []
+        while s.at() not in ('}', None): items.append(s.block_item())
+        return node('CompoundStatement', 0, o, *([node('BlockItemList', 0, *items)] if items else []), s.eat('}'))
+    def selection(s):
+        t = s.eat(); head = [t, s.eat('('), s.expr(), s.eat(')'), s.block(s.statement)]
+        if t == 'switch': return node('SelectionStatement', 2, *head)
+        if s.at() != 'else': return node('SelectionStatement', 0, *head)
+        return node('SelectionStatement', 1, *head, s.eat(), s.block(s.statement))
+    def iteration(s):
+        t = s.eat()
+        if t == 'while': return node('IterationStatement', 0, t, s.eat('('), s.expr(), s.eat(')'), s.block(s.statement))
+        if t == 'do': return node('IterationStatement', 1, t, s.block(s.statement), s.eat('while'), s.eat('('), s.expr(), s.eat(')'), s.eat(';'))
+        o = s.eat('('); choice = 3 if s.is_declaration() else 2
+        first = [s.declaration()] if choice == 3 else [*s.maybe(';'), s.eat(';')]
+        return node('IterationStatement', choice, t, o, *first, *s.maybe(';'), s.eat(';'), *s.maybe(')'), s.eat(')'), s.block(s.statement))
+GOALS = {'expression': P.expr, 'declaration': P.declaration, 'type name': P.type_name, 'statement': P.statement, 'block item': P.block_item}
 def tree(goal, text, typedefs):
     p = P(lex(text), typedefs)
     try:
@@ -357,6 +394,7 @@ if __name__ == '__main__':
     import pycparser
     def outside(goal, text, names):
         before = ''.join('typedef int ' + n + '; ' for n in names)
+        if goal in ('statement', 'block item'): text = 'void f0(void) { ' + ('for (;;) switch (x) ' if goal == 'statement' else '') + text + ' }'; goal = 'declaration'
         try: pycparser.CParser().parse(before + ('void f0(void) { x = sizeof(' + text + '); }' if goal != 'declaration' else text)); return True
         except Exception: return False
     rows = []; puzzles = 0; count = 0; differ = []

@@ -1,4 +1,4 @@
-"""N1570 A.2.1, A.2.2 and A.2.4, typed in from the standard in its own notation (without _Complex), and what a test compares with the table:
+"""N1570 A.2, typed in from the standard in its own notation (without _Complex), and what a test compares with the table:
 each alternative with and without each of its optional parts. Writes crates/cl_tree_tests/src/grammar_cases.rt."""
 import itertools, os
 TEXT = '''
@@ -62,6 +62,15 @@ designation: designator-list =
 designator-list: designator | designator-list designator
 designator: [ constant-expression ] | . identifier
 static_assert-declaration: _Static_assert ( constant-expression , string-literal ) ;
+statement: labeled-statement | compound-statement | expression-statement | selection-statement | iteration-statement | jump-statement
+labeled-statement: identifier : statement | case constant-expression : statement | default : statement
+compound-statement: { block-item-list? }
+block-item-list: block-item | block-item-list block-item
+block-item: declaration | statement
+expression-statement: expression? ;
+selection-statement: if ( expression ) statement | if ( expression ) statement else statement | switch ( expression ) statement
+iteration-statement: while ( expression ) statement | do statement while ( expression ) ; | for ( expression? ; expression? ; expression? ) statement | for ( declaration expression? ; expression? ) statement
+jump-statement: goto identifier ; | continue ; | break ; | return expression? ;
 function-definition: declaration-specifiers declarator compound-statement
 '''
 def camel(n): return ''.join(w[0].upper() + w[1:].lower() for w in n.replace('static_assert', 'static-assert').split('-'))
@@ -92,11 +101,11 @@ def token(x): return x if x[0].isupper() else WORDS.get(x) or ''.join(w.capitali
 LINES = sorted(set(f'{h} {"unit" if c is None else c}:' + ''.join(' ' + token(x) for x in r) for h, c, r in ROWS))
 if __name__ == '__main__':
     print(len(LINES))
-    o = '''//! Each alternative of N1570 A.2.1, A.2.2 and A.2.4, with and without each of its optional parts, as typed in from the standard; of a list
+    o = '''//! Each alternative of N1570 A.2, with and without each of its optional parts, as typed in from the standard; of a list
 //! rule, one member. Written by tools/grammar/standard.py. The rules for specifiers stand apart: here they are one node.
 
 '''
-    names = ('FIRST', 'SECOND', 'THIRD', 'FOURTH', 'FIFTH')
+    names = ('FIRST', 'SECOND', 'THIRD', 'FOURTH', 'FIFTH', 'SIXTH')
     n = 42
     for i, name in enumerate(names):
         part = LINES[i * n:(i + 1) * n]

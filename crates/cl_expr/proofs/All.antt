@@ -11,8 +11,8 @@ use Rattle.cl_tree.specs.declared.rule.Rule.{Rule}
 use Rattle.cl_tree.specs.declared.rule.Rule.TheVariants as ru
 use Rattle.cl_expr.specs.code.Table.{number}
 
-abbrev pub all_classs : List Class
-all_classs = cl.Ident ∷ cl.IdentColon ∷ cl.TypedefName ∷ cl.TypedefColon ∷ cl.Constant ∷ cl.String ∷ cl.LeftParen ∷ cl.TypeParen ∷ cl.LiteralParen ∷ cl.RightParen ∷ cl.LeftBracket ∷ cl.RightBracket ∷ cl.LeftBrace ∷ cl.RightBrace ∷ cl.Dot ∷ cl.Arrow ∷ cl.PlusPlus ∷ cl.MinusMinus ∷ cl.Ampersand ∷ cl.Star ∷ cl.StarBracket ∷ cl.Plus ∷ cl.Minus ∷ cl.Tilde ∷ cl.Bang ∷ cl.Slash ∷ cl.Percent ∷ cl.ShiftLeft ∷ cl.ShiftRight ∷ cl.Less ∷ cl.Greater ∷ cl.LessEqual ∷ cl.GreaterEqual ∷ cl.EqualEqual ∷ cl.BangEqual ∷ cl.Caret ∷ cl.Bar ∷ cl.AndAnd ∷ cl.OrOr ∷ cl.Question ∷ cl.Colon ∷ cl.Semicolon ∷ cl.Ellipsis ∷ cl.Comma ∷ cl.LastComma ∷ cl.DesignationComma ∷ cl.Equal ∷ cl.StarEqual ∷ cl.SlashEqual ∷ cl.PercentEqual ∷ cl.PlusEqual ∷ cl.MinusEqual ∷ cl.ShiftLeftEqual ∷ cl.ShiftRightEqual ∷ cl.AmpersandEqual ∷ cl.CaretEqual ∷ cl.BarEqual ∷ cl.Sizeof ∷ cl.Alignof ∷ cl.Generic ∷ cl.Default ∷ cl.Case ∷ cl.If ∷ cl.Else ∷ cl.Switch ∷ cl.While ∷ cl.Do ∷ cl.For ∷ cl.Goto ∷ cl.Continue ∷ cl.Break ∷ cl.Return ∷ cl.StaticAssert ∷ cl.Typedef ∷ cl.Extern ∷ cl.Static ∷ cl.ThreadLocal ∷ cl.Auto ∷ cl.Register ∷ cl.Void ∷ cl.Char ∷ cl.Short ∷ cl.Int ∷ cl.Long ∷ cl.Float ∷ cl.Double ∷ cl.Signed ∷ cl.Unsigned ∷ cl.Bool ∷ cl.Struct ∷ cl.Union ∷ cl.Enum ∷ cl.Const ∷ cl.Restrict ∷ cl.Volatile ∷ cl.Atomic ∷ cl.AtomicParen ∷ cl.Inline ∷ cl.Noreturn ∷ cl.Alignas ∷ cl.Other ∷ []
+abbrev pub all_classes : List Class
+all_classes = cl.Ident ∷ cl.IdentColon ∷ cl.TypedefName ∷ cl.TypedefColon ∷ cl.Constant ∷ cl.String ∷ cl.LeftParen ∷ cl.TypeParen ∷ cl.LiteralParen ∷ cl.RightParen ∷ cl.LeftBracket ∷ cl.RightBracket ∷ cl.LeftBrace ∷ cl.RightBrace ∷ cl.Dot ∷ cl.Arrow ∷ cl.PlusPlus ∷ cl.MinusMinus ∷ cl.Ampersand ∷ cl.Star ∷ cl.StarBracket ∷ cl.Plus ∷ cl.Minus ∷ cl.Tilde ∷ cl.Bang ∷ cl.Slash ∷ cl.Percent ∷ cl.ShiftLeft ∷ cl.ShiftRight ∷ cl.Less ∷ cl.Greater ∷ cl.LessEqual ∷ cl.GreaterEqual ∷ cl.EqualEqual ∷ cl.BangEqual ∷ cl.Caret ∷ cl.Bar ∷ cl.AndAnd ∷ cl.OrOr ∷ cl.Question ∷ cl.Colon ∷ cl.Semicolon ∷ cl.Ellipsis ∷ cl.Comma ∷ cl.LastComma ∷ cl.DesignationComma ∷ cl.Equal ∷ cl.StarEqual ∷ cl.SlashEqual ∷ cl.PercentEqual ∷ cl.PlusEqual ∷ cl.MinusEqual ∷ cl.ShiftLeftEqual ∷ cl.ShiftRightEqual ∷ cl.AmpersandEqual ∷ cl.CaretEqual ∷ cl.BarEqual ∷ cl.Sizeof ∷ cl.Alignof ∷ cl.Generic ∷ cl.Default ∷ cl.Case ∷ cl.If ∷ cl.Else ∷ cl.Switch ∷ cl.While ∷ cl.Do ∷ cl.For ∷ cl.Goto ∷ cl.Continue ∷ cl.Break ∷ cl.Return ∷ cl.StaticAssert ∷ cl.Typedef ∷ cl.Extern ∷ cl.Static ∷ cl.ThreadLocal ∷ cl.Auto ∷ cl.Register ∷ cl.Void ∷ cl.Char ∷ cl.Short ∷ cl.Int ∷ cl.Long ∷ cl.Float ∷ cl.Double ∷ cl.Signed ∷ cl.Unsigned ∷ cl.Bool ∷ cl.Struct ∷ cl.Union ∷ cl.Enum ∷ cl.Const ∷ cl.Restrict ∷ cl.Volatile ∷ cl.Atomic ∷ cl.AtomicParen ∷ cl.Inline ∷ cl.Noreturn ∷ cl.Alignas ∷ cl.Other ∷ []
 
 abbrev pub class_number : Class → ℕ
 class_number cl.Ident = 0
@@ -117,7 +117,7 @@ class_number cl.Noreturn = 98
 class_number cl.Alignas = 99
 class_number cl.Other = 100
 
-pub numbered_class : (x : Class) → slice_get all_classs (class_number x) ≡ Some x
+pub numbered_class : (x : Class) → slice_get all_classes (class_number x) ≡ Some x
 numbered_class cl.Ident = refl
 numbered_class cl.IdentColon = refl
 numbered_class cl.TypedefName = refl
@@ -224,10 +224,10 @@ some_class : {x y : Class} → Some x ≡ Some y → x ≡ y
 some_class e = cc
 
 pub same_class_is : (x y : Class) → class_number x ≡ class_number y → x ≡ y
-same_class_is x y e = some_class (sym (numbered_class x) ∙ ap (λ (n : ℕ). slice_get all_classs n) e ∙ numbered_class y)
+same_class_is x y e = some_class (sym (numbered_class x) ∙ ap (λ (n : ℕ). slice_get all_classes n) e ∙ numbered_class y)
 
 abbrev pub all_goals : List Nonterminal
-all_goals = nt.PrimaryExpression ∷ nt.GenericSelection ∷ nt.GenericAssocList ∷ nt.GenericAssociation ∷ nt.PostfixExpression ∷ nt.ArgumentExpressionList ∷ nt.UnaryExpression ∷ nt.UnaryOperator ∷ nt.CastExpression ∷ nt.MultiplicativeExpression ∷ nt.AdditiveExpression ∷ nt.ShiftExpression ∷ nt.RelationalExpression ∷ nt.EqualityExpression ∷ nt.AndExpression ∷ nt.ExclusiveOrExpression ∷ nt.InclusiveOrExpression ∷ nt.LogicalAndExpression ∷ nt.LogicalOrExpression ∷ nt.ConditionalExpression ∷ nt.AssignmentExpression ∷ nt.AssignmentOperator ∷ nt.Expression ∷ nt.ConstantExpression ∷ nt.Declaration ∷ nt.DeclarationSpecifiers ∷ nt.InitDeclaratorList ∷ nt.InitDeclarator ∷ nt.StorageClassSpecifier ∷ nt.TypeSpecifier ∷ nt.StructOrUnionSpecifier ∷ nt.StructOrUnion ∷ nt.StructDeclarationList ∷ nt.StructDeclaration ∷ nt.SpecifierQualifierList ∷ nt.StructDeclaratorList ∷ nt.StructDeclarator ∷ nt.EnumSpecifier ∷ nt.EnumeratorList ∷ nt.Enumerator ∷ nt.AtomicTypeSpecifier ∷ nt.TypeQualifier ∷ nt.FunctionSpecifier ∷ nt.AlignmentSpecifier ∷ nt.Declarator ∷ nt.DirectDeclarator ∷ nt.Pointer ∷ nt.TypeQualifierList ∷ nt.ParameterTypeList ∷ nt.ParameterList ∷ nt.ParameterDeclaration ∷ nt.IdentifierList ∷ nt.TypeName ∷ nt.AbstractDeclarator ∷ nt.DirectAbstractDeclarator ∷ nt.TypedefName ∷ nt.Initializer ∷ nt.InitializerList ∷ nt.Designation ∷ nt.DesignatorList ∷ nt.Designator ∷ nt.StaticAssertDeclaration ∷ nt.FunctionDefinition ∷ nt.OtherSpecifier ∷ nt.LaterTypeSpecifier ∷ nt.LaterSpecifier ∷ nt.LaterQualifier ∷ nt.ParameterDeclarator ∷ nt.DirectParameterDeclarator ∷ nt.AnyDeclarator ∷ nt.DirectAnyDeclarator ∷ []
+all_goals = nt.PrimaryExpression ∷ nt.GenericSelection ∷ nt.GenericAssocList ∷ nt.GenericAssociation ∷ nt.PostfixExpression ∷ nt.ArgumentExpressionList ∷ nt.UnaryExpression ∷ nt.UnaryOperator ∷ nt.CastExpression ∷ nt.MultiplicativeExpression ∷ nt.AdditiveExpression ∷ nt.ShiftExpression ∷ nt.RelationalExpression ∷ nt.EqualityExpression ∷ nt.AndExpression ∷ nt.ExclusiveOrExpression ∷ nt.InclusiveOrExpression ∷ nt.LogicalAndExpression ∷ nt.LogicalOrExpression ∷ nt.ConditionalExpression ∷ nt.AssignmentExpression ∷ nt.AssignmentOperator ∷ nt.Expression ∷ nt.ConstantExpression ∷ nt.Declaration ∷ nt.DeclarationSpecifiers ∷ nt.InitDeclaratorList ∷ nt.InitDeclarator ∷ nt.StorageClassSpecifier ∷ nt.TypeSpecifier ∷ nt.StructOrUnionSpecifier ∷ nt.StructOrUnion ∷ nt.StructDeclarationList ∷ nt.StructDeclaration ∷ nt.SpecifierQualifierList ∷ nt.StructDeclaratorList ∷ nt.StructDeclarator ∷ nt.EnumSpecifier ∷ nt.EnumeratorList ∷ nt.Enumerator ∷ nt.AtomicTypeSpecifier ∷ nt.TypeQualifier ∷ nt.FunctionSpecifier ∷ nt.AlignmentSpecifier ∷ nt.Declarator ∷ nt.DirectDeclarator ∷ nt.Pointer ∷ nt.TypeQualifierList ∷ nt.ParameterTypeList ∷ nt.ParameterList ∷ nt.ParameterDeclaration ∷ nt.IdentifierList ∷ nt.TypeName ∷ nt.AbstractDeclarator ∷ nt.DirectAbstractDeclarator ∷ nt.TypedefName ∷ nt.Initializer ∷ nt.InitializerList ∷ nt.Designation ∷ nt.DesignatorList ∷ nt.Designator ∷ nt.StaticAssertDeclaration ∷ nt.Statement ∷ nt.LabeledStatement ∷ nt.CompoundStatement ∷ nt.BlockItemList ∷ nt.BlockItem ∷ nt.ExpressionStatement ∷ nt.SelectionStatement ∷ nt.IterationStatement ∷ nt.JumpStatement ∷ nt.FunctionDefinition ∷ nt.OtherSpecifier ∷ nt.LaterTypeSpecifier ∷ nt.LaterSpecifier ∷ nt.LaterQualifier ∷ nt.ParameterDeclarator ∷ nt.DirectParameterDeclarator ∷ nt.AnyDeclarator ∷ nt.DirectAnyDeclarator ∷ nt.UnlabelledExpression ∷ nt.PlainExpression ∷ nt.BlockStatement ∷ nt.BlockExpressionStatement ∷ nt.BlockDeclaration ∷ nt.BlockSpecifiers ∷ []
 
 pub numbered_goal : (x : Nonterminal) → slice_get all_goals (number x) ≡ Some x
 numbered_goal nt.PrimaryExpression = refl
@@ -292,6 +292,15 @@ numbered_goal nt.Designation = refl
 numbered_goal nt.DesignatorList = refl
 numbered_goal nt.Designator = refl
 numbered_goal nt.StaticAssertDeclaration = refl
+numbered_goal nt.Statement = refl
+numbered_goal nt.LabeledStatement = refl
+numbered_goal nt.CompoundStatement = refl
+numbered_goal nt.BlockItemList = refl
+numbered_goal nt.BlockItem = refl
+numbered_goal nt.ExpressionStatement = refl
+numbered_goal nt.SelectionStatement = refl
+numbered_goal nt.IterationStatement = refl
+numbered_goal nt.JumpStatement = refl
 numbered_goal nt.FunctionDefinition = refl
 numbered_goal nt.OtherSpecifier = refl
 numbered_goal nt.LaterTypeSpecifier = refl
@@ -301,6 +310,12 @@ numbered_goal nt.ParameterDeclarator = refl
 numbered_goal nt.DirectParameterDeclarator = refl
 numbered_goal nt.AnyDeclarator = refl
 numbered_goal nt.DirectAnyDeclarator = refl
+numbered_goal nt.UnlabelledExpression = refl
+numbered_goal nt.PlainExpression = refl
+numbered_goal nt.BlockStatement = refl
+numbered_goal nt.BlockExpressionStatement = refl
+numbered_goal nt.BlockDeclaration = refl
+numbered_goal nt.BlockSpecifiers = refl
 
 some_goal : {x y : Nonterminal} → Some x ≡ Some y → x ≡ y
 some_goal e = cc

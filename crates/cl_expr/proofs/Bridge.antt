@@ -1,6 +1,7 @@
 -- Trees that lie on a way through the places are those that derive: each place spells productions, and each production is spelled by places.
-use Rattle.std.proofs.Common.{◌≡◌, ℕ, zero, suc, ◌+◌, ◌<◌, List, [], ◌∷◌, ◌⊎◌, inl, inr, arith, refl, sym, ◌∙◌, ap, subst, Bool, true, false, ◌&&◌, ◌||◌, drop, length}
+use Rattle.std.proofs.Common.{◌≡◌, ℕ, zero, suc, ◌+◌, ◌<◌, List, [], ◌∷◌, ◌⊎◌, inl, inr, arith, refl, sym, ◌∙◌, ap, subst, Bool, true, false, not, ◌&&◌, ◌||◌, drop, length}
 use Rattle.std.specs.Prelude.{Option, Some, None, slice_get}
+use Rattle.std.specs.Option.{option_map}
 use Rattle.std.proofs.Math.Dec.{eqb}
 use Rattle.std.proofs.lemmas.Bool.{eqb-true, and_parts, or_cases, false≢true}
 use Rattle.cl_tree.specs.declared.class.Class.{Class}
@@ -13,22 +14,22 @@ use Rattle.cl_tree.specs.declared.grammar.Separator.{Separator}
 use Rattle.cl_tree.specs.declared.tree.Tree.{Tree}
 use Rattle.cl_tree.specs.declared.lexeme.Lexeme.{Lexeme}
 use Rattle.cl_tree.specs.declared.scope.Scope.{Scope}
-use Rattle.cl_tree.specs.Scopes.{pass}
-use Rattle.cl_tree.specs.Grammar.{Production, productions, units}
+use Rattle.cl_tree.specs.Scopes.{pass, leave}
+use Rattle.cl_tree.specs.Grammar.{Production, productions, units, shuns}
 use Rattle.cl_tree.specs.Derives as d
-use Rattle.cl_tree.specs.Derives.{Has, start, end, parts, left_out, Next, nexts, barred, StandsFor, itself, through, Derived, SpansFrom}
+use Rattle.cl_tree.specs.Derives.{Has, start, end, parts, left_out, Next, nexts, barred, Opened, StandsFor, itself, through, Derived, SpansFrom}
 use Rattle.cl_expr.specs.declared.table.Edge.{Edge}
 use Rattle.cl_expr.specs.declared.table.Label.{Label}
 use Rattle.cl_expr.specs.declared.table.Ways.{Ways}
-use Rattle.cl_expr.specs.code.Table.{Item, Place, places, place, nowhere, goal, goals, number, starts, edges, name_of, bars, bar_of, turn, turned, turning, is_named, home, items, kinds}
+use Rattle.cl_expr.specs.code.Table.{Item, Place, places, place, nowhere, goal, goals, number, starts, edges, name_of, bars, bar_of, scoped, turn, turned, turning, is_named, home, items, kinds, shunned}
 use Rattle.cl_expr.specs.code.Paths as p
 use Rattle.cl_expr.specs.code.Paths.{name, Path, At, Whole}
-use Rattle.cl_expr.proofs.All.{all_goals, numbered_goal, class_number, same_class_is, act_number, same_act_is, same_goal_is, rule_number, same_rule_is}
-use Rattle.cl_expr.proofs.Checks.{every, some, when, when_use, none_not, some_is, every_has, member_has}
+use Rattle.cl_expr.proofs.All.{all_goals, numbered_goal, all_classes, class_number, numbered_class, same_class_is, act_number, same_act_is, same_goal_is, rule_number, same_rule_is}
+use Rattle.cl_expr.proofs.Checks.{every, some, when, is_some, when_use, none_is, none_not, some_is, every_has, member_has}
 use Rattle.cl_expr.proofs.Conditions.{Way, numbers, every_place, either, home_next, kind_in, place_number}
 use Rattle.cl_expr.proofs.Heights.{kind_of, of_kind, kind_flat}
 use Rattle.cl_expr.proofs.Reading.{way_of}
-use Rattle.cl_expr.proofs.Bars.{bars_are}
+use Rattle.cl_expr.proofs.Bars.{bars_are, all_open}
 use Rattle.std.proofs.lemmas.Option.{slice_get_within}
 
 -- some member of a list passes a test
@@ -41,50 +42,37 @@ some_of f (y ∷ ys) t = elim (or_cases (f y) (some f ys) t) [
 
 -- equality of symbols
 abbrev terminal_number : Terminal → ℕ
-terminal_number (te.Is k) = suc (suc (suc (suc (suc (class_number k)))))
 terminal_number te.Name = 0
 terminal_number te.Open = 1
 terminal_number te.TypeOpen = 2
 terminal_number te.Typed = 3
-terminal_number te.Body = 4
+terminal_number te.Label = 4
+terminal_number te.Marked = 5
+terminal_number te.Body = 6
+terminal_number (te.Is k) = suc (suc (suc (suc (suc (suc (suc (class_number k)))))))
+
+abbrev terminal_of : ℕ → Option Terminal
+terminal_of zero = Some te.Name
+terminal_of (suc zero) = Some te.Open
+terminal_of (suc (suc zero)) = Some te.TypeOpen
+terminal_of (suc (suc (suc zero))) = Some te.Typed
+terminal_of (suc (suc (suc (suc zero)))) = Some te.Label
+terminal_of (suc (suc (suc (suc (suc zero))))) = Some te.Marked
+terminal_of (suc (suc (suc (suc (suc (suc zero)))))) = Some te.Body
+terminal_of (suc (suc (suc (suc (suc (suc (suc n))))))) = option_map te.Is (slice_get all_classes n)
+
+numbered_terminal : (t : Terminal) → terminal_of (terminal_number t) ≡ Some t
+numbered_terminal te.Name = refl
+numbered_terminal te.Open = refl
+numbered_terminal te.TypeOpen = refl
+numbered_terminal te.Typed = refl
+numbered_terminal te.Label = refl
+numbered_terminal te.Marked = refl
+numbered_terminal te.Body = refl
+numbered_terminal (te.Is k) = ap (option_map te.Is) (numbered_class k)
 
 same_terminal : (t u : Terminal) → terminal_number t ≡ terminal_number u → t ≡ u
-same_terminal (te.Is k) (te.Is l) e = ap te.Is (same_class_is k l (omega arith))
-same_terminal (te.Is k) te.Name e = absurd (omega arith)
-same_terminal (te.Is k) te.Open e = absurd (omega arith)
-same_terminal (te.Is k) te.TypeOpen e = absurd (omega arith)
-same_terminal (te.Is k) te.Typed e = absurd (omega arith)
-same_terminal (te.Is k) te.Body e = absurd (omega arith)
-same_terminal te.Name (te.Is l) e = absurd (omega arith)
-same_terminal te.Name te.Name e = refl
-same_terminal te.Name te.Open e = absurd (omega arith)
-same_terminal te.Name te.TypeOpen e = absurd (omega arith)
-same_terminal te.Name te.Typed e = absurd (omega arith)
-same_terminal te.Name te.Body e = absurd (omega arith)
-same_terminal te.Open (te.Is l) e = absurd (omega arith)
-same_terminal te.Open te.Name e = absurd (omega arith)
-same_terminal te.Open te.Open e = refl
-same_terminal te.Open te.TypeOpen e = absurd (omega arith)
-same_terminal te.Open te.Typed e = absurd (omega arith)
-same_terminal te.Open te.Body e = absurd (omega arith)
-same_terminal te.TypeOpen (te.Is l) e = absurd (omega arith)
-same_terminal te.TypeOpen te.Name e = absurd (omega arith)
-same_terminal te.TypeOpen te.Open e = absurd (omega arith)
-same_terminal te.TypeOpen te.TypeOpen e = refl
-same_terminal te.TypeOpen te.Typed e = absurd (omega arith)
-same_terminal te.TypeOpen te.Body e = absurd (omega arith)
-same_terminal te.Typed (te.Is l) e = absurd (omega arith)
-same_terminal te.Typed te.Name e = absurd (omega arith)
-same_terminal te.Typed te.Open e = absurd (omega arith)
-same_terminal te.Typed te.TypeOpen e = absurd (omega arith)
-same_terminal te.Typed te.Typed e = refl
-same_terminal te.Typed te.Body e = absurd (omega arith)
-same_terminal te.Body (te.Is l) e = absurd (omega arith)
-same_terminal te.Body te.Name e = absurd (omega arith)
-same_terminal te.Body te.Open e = absurd (omega arith)
-same_terminal te.Body te.TypeOpen e = absurd (omega arith)
-same_terminal te.Body te.Typed e = absurd (omega arith)
-same_terminal te.Body te.Body e = refl
+same_terminal t u e = some_is (sym (numbered_terminal t) ∙ ap terminal_of e ∙ numbered_terminal u)
 
 abbrev symbol_eq : Symbol → Symbol → Bool
 symbol_eq (Token t a) (Token u b) = eqb (terminal_number t) (terminal_number u) && eqb (act_number a) (act_number b)
@@ -155,7 +143,7 @@ item_has i xs t = let o = some_of (λ j. item_eq j i) xs t in subst (Has xs) (it
 -- an edge is a next symbol of a production there
 abbrev takes_kind : Symbol → ℕ → Bool
 takes_kind (Token t a) y = false
-takes_kind (Node g) y = kind_in y (kinds g)
+takes_kind (Node g) y = kind_in y (kinds g) && not (is_some (shuns g))
 
 abbrev from_item : (Symbol → Bool) → Option Separator → Item → Item → Bool
 from_item f b j i = eqb i.production j.production && some (λ x. before_eq x.before b && (f x.symbol && eqb x.behind j.behind)) (nexts_item i)
@@ -172,7 +160,7 @@ abbrev c_back : ℕ → Bool
 c_back q = every (λ e. back_by e (items q) e.symbol (turning e.next)) (edges q)
 
 places_back : every_place c_back ≡ true
-unfolding places place edges items turning is_named kinds goal goals productions
+unfolding shuns places place edges items turning is_named kinds goal goals productions
 places_back = refl
 
 -- a next symbol of a production there is an edge
@@ -180,7 +168,7 @@ abbrev forth_by : ℕ → Next → Edge → Symbol → Symbol → Option Ways �
 forth_by n x e s t None = symbol_eq s t && has_item (item n x.behind) (items e.next)
 forth_by n x e (Token k a) t (Some w) = false
 forth_by n x e (Node g) (Token k a) (Some w) = false
-forth_by n x e (Node g) (Node m) (Some w) = every (λ y. kind_in y (kinds m) && has_item (item n x.behind) (items (turned (Some w) e.next (is_named y)))) (kinds g)
+forth_by n x e (Node g) (Node m) (Some w) = not (is_some (shuns m)) && every (λ y. kind_in y (kinds m) && has_item (item n x.behind) (items (turned (Some w) e.next (is_named y)))) (kinds g)
 
 abbrev forth_edge : ℕ → Next → Edge → Bool
 forth_edge n x e = before_eq x.before e.before && forth_by n x e x.symbol e.symbol (turning e.next)
@@ -189,10 +177,10 @@ abbrev c_forth : ℕ → Bool
 c_forth q = every (λ i. every (λ x. some (forth_edge i.production x) (edges q)) (nexts_item i)) (items q)
 
 places_forth : every_place c_forth ≡ true
-unfolding places place edges items turning is_named kinds goal goals productions
+unfolding shuns places place edges items turning is_named kinds goal goals productions
 places_forth = refl
 
--- where a production may end, its node and what it bars are those of the place
+-- where a production may end, its node, what it bars and whether it is a block are those of the place
 abbrev label_eq : Option Label → Production → Bool
 label_eq None r = false
 label_eq (Some l) r = eqb (rule_number l.rule) (rule_number r.rule) && eqb l.choice r.choice
@@ -203,15 +191,19 @@ bar_eq None (Some t) = false
 bar_eq (Some t) None = false
 bar_eq (Some t) (Some u) = eqb (terminal_number t) (terminal_number u)
 
+abbrev flag_eq : Bool → Bool → Bool
+flag_eq true b = b
+flag_eq false b = not b
+
 abbrev ended_label : ℕ → Option Production → Bool
 ended_label q None = false
-ended_label q (Some r) = label_eq (name_of q) r && bar_eq (bar_of q) r.bar
+ended_label q (Some r) = label_eq (name_of q) r && (bar_eq (bar_of q) r.bar && flag_eq (scoped q) r.scoped)
 
 abbrev c_label : ℕ → Bool
 c_label q = every (λ i. when (ends_item i) (ended_label q (slice_get productions i.production))) (items q)
 
 places_label : every_place c_label ≡ true
-unfolding places place items name_of bar_of productions
+unfolding places place items name_of bar_of scoped productions
 places_label = refl
 
 -- a production's nonterminal has the place among those where its trees end
@@ -269,6 +261,11 @@ units_within : every (λ u. subset (kinds u.by) (kinds u.of)) units ≡ true
 unfolding kinds goal goals units
 units_within = refl
 
+-- what the code has of what may not begin a nonterminal is what the grammar says
+goals_shun : every (λ g. bar_eq (shunned g) (shuns g)) all_goals ≡ true
+unfolding shunned shuns goal goals
+goals_shun = refl
+
 -- what the checks show
 absent : (q : ℕ) → place q ≡ nowhere → (i : Item) → Has (items q) i → ⊥
 unfolding items
@@ -317,7 +314,7 @@ spelled_use f b is j t =
 
 -- a symbol of a production is that of an edge, or a narrower nonterminal
 abbrev Narrower : Symbol → Symbol → ℕ → Type 0
-Narrower x s y = (x ≡ s) ⊎ ((g : Nonterminal) × (m : Nonterminal) × (x ≡ Node g) × (s ≡ Node m) × Has (kinds g) y)
+Narrower x s y = (x ≡ s) ⊎ ((g : Nonterminal) × (m : Nonterminal) × (x ≡ Node g) × (s ≡ Node m) × Has (kinds g) y × (shuns g ≡ None))
 
 record Back (q : ℕ) (e : Edge) (y : ℕ) (j : Item) : Type 0 where
   item_there : Item
@@ -329,9 +326,9 @@ record Back (q : ℕ) (e : Edge) (y : ℕ) (j : Item) : Type 0 where
   behind_is : next_there.behind ≡ j.behind
   fits : Narrower next_there.symbol e.symbol y
 
-takes_kind_use : (x : Symbol) (y : ℕ) → takes_kind x y ≡ true → (g : Nonterminal) × (x ≡ Node g) × Has (kinds g) y
+takes_kind_use : (x : Symbol) (y : ℕ) → takes_kind x y ≡ true → (g : Nonterminal) × (x ≡ Node g) × Has (kinds g) y × (shuns g ≡ None)
 takes_kind_use (Token t a) y e = absurd (false≢true e)
-takes_kind_use (Node g) y e = (g, refl, kind_has y (kinds g) e)
+takes_kind_use (Node g) y e = let q = and_parts (kind_in y (kinds g)) (not (is_some (shuns g))) e in (g, refl, kind_has y (kinds g) q.0, none_is (shuns g) q.1)
 
 back_of : (q : ℕ) (e : Edge) (y : ℕ) → Has (edges q) e → Way e.symbol y → (j : Item) → Has (items (turn e.next y)) j → Back q e y j
 unfolding turn
@@ -358,7 +355,7 @@ back_of q e y has way j there = go e.symbol refl (turning e.next) (every_has (λ
         let u = every_has (λ v. every (spelled (λ x. takes_kind x v) e.before (items q)) (items (turned (Some w) e.next (is_named v)))) (kinds m) t y way in
         made (λ x. takes_kind x y)
         (spelled_use (λ x. takes_kind x y) e.before (items q) j (every_has (spelled (λ x. takes_kind x y) e.before (items q)) (items (turned (Some w) e.next (is_named y))) u j h))
-        (λ x p. (let o = takes_kind_use x y p in inr (o.0, m, o.1, is, o.2)))
+        (λ x p. (let o = takes_kind_use x y p in inr (o.0, m, o.1, is, o.2, o.3)))
 
 -- a production that may end at a place
 record Ending (z : ℕ) (g : Nonterminal) : Type 0 where
@@ -370,6 +367,7 @@ record Ending (z : ℕ) (g : Nonterminal) : Type 0 where
   stands_for : StandsFor g made.of
   label_is : name_of z ≡ Some (record { rule = made.rule; choice = made.choice })
   bars_same : bars z ≡ barred made.bar
+  scoped_same : scoped z ≡ made.scoped
 
 stands_use : (n : ℕ) (g f : Nonterminal) → stands n g f ≡ true → StandsFor g f
 stands_use zero g f t = absurd (false≢true t)
@@ -395,13 +393,22 @@ bar_use None (Some u) t = absurd (false≢true t)
 bar_use (Some o) None t = absurd (false≢true t)
 bar_use (Some o) (Some u) t = ap Some (same_terminal o u (eqb-true (terminal_number o) (terminal_number u) t))
 
+pub shunned_as : (g : Nonterminal) → shunned g ≡ shuns g
+shunned_as g = bar_use (shunned g) (shuns g) (every_has (λ g. bar_eq (shunned g) (shuns g)) all_goals goals_shun g (number g, numbered_goal g))
+
+flag_use : (a b : Bool) → flag_eq a b ≡ true → a ≡ b
+flag_use true b t = sym t
+flag_use false true t = absurd (false≢true t)
+flag_use false false t = refl
+
 label_at : (z : ℕ) (i : Item) (r : Production) → Has (items z) i → slice_get productions i.production ≡ Some r → ends_item i ≡ true
-    → (name_of z ≡ Some (record { rule = r.rule; choice = r.choice })) × (bars z ≡ barred r.bar)
+    → (name_of z ≡ Some (record { rule = r.rule; choice = r.choice })) × (bars z ≡ barred r.bar) × (scoped z ≡ r.scoped)
 label_at z i r has is e =
     let t = when_use (ends_item i) _ (every_has (λ v. when (ends_item v) (ended_label z (slice_get productions v.production))) (items z) (in_items c_label places_label z i has) i has) e in
     let u : ended_label z (Some r) ≡ true = subst (λ (v : Option Production). ended_label z v ≡ true) is t in
-    let q = and_parts (label_eq (name_of z) r) (bar_eq (bar_of z) r.bar) u in
-    (label_use (name_of z) r q.0, bars_are z ∙ ap barred (bar_use (bar_of z) r.bar q.1))
+    let q = and_parts (label_eq (name_of z) r) _ u in
+    let v = and_parts (bar_eq (bar_of z) r.bar) (flag_eq (scoped z) r.scoped) q.1 in
+    (label_use (name_of z) r q.0, bars_are z ∙ ap barred (bar_use (bar_of z) r.bar v.0), flag_use (scoped z) r.scoped v.1)
 
 ending_by : (z : ℕ) (g : Nonterminal) (i : Item) → Has (items z) i → ends_item i ≡ true → stands_by g (slice_get productions i.production) ≡ true → Ending z g
 ending_by z g i has e s = go (slice_get productions i.production) refl e s
@@ -410,7 +417,7 @@ ending_by z g i has e s = go (slice_get productions i.production) refl e s
     go None is e' s' = absurd (false≢true e')
     go (Some r) is e' s' =
         let l = label_at z i r has is e in
-        record { item_there = i; has = has; made = r; is = is; out = e'; stands_for = stands_use 20 g r.of s'; label_is = l.0; bars_same = l.1 }
+        record { item_there = i; has = has; made = r; is = is; out = e'; stands_for = stands_use 20 g r.of s'; label_is = l.0; bars_same = l.1; scoped_same = l.2 }
 
 production_of : (g : Nonterminal) (z : ℕ) → Has (kinds g) z → Ending z g
 production_of g z has =
@@ -444,7 +451,7 @@ module _ (cs : List Lexeme) (h : ℕ) (f : (g : Nonterminal) (z : ℕ) (sa : Sco
   fit_reads x s y (inl e) sa at t sw r = subst (λ (v : Symbol). d.Reads (Derived cs h) h cs v sa at t sw) (sym e) (same_reads s y sa at t sw r)
   fit_reads x s y (inr n) sa at t sw r =
       let u : p.Reads (At cs h) h cs (Node n.1) y sa at t sw = subst (λ (v : Symbol). p.Reads (At cs h) h cs v y sa at t sw) n.3 r in
-      let w : d.Reads (Derived cs h) h cs (Node n.0) sa at t sw = (f n.0 y sa t sw (n.4, u.0.1), u.1) in
+      let w : d.Reads (Derived cs h) h cs (Node n.0) sa at t sw = (f n.0 y sa t sw (n.4, u.0.1, all_open cs n.0 sa (start t) n.5), u.1) in
       subst (λ (v : Symbol). d.Reads (Derived cs h) h cs v sa at t sw) (sym n.2) w
 
   after_reads : (b : Option Separator) (x s : Symbol) (y : ℕ) → Narrower x s y → (sa : Scope) (at : ℕ) (t : Tree) (sw : Scope) → p.ReadsAfter (At cs h) h cs b s y sa at t sw → d.ReadsAfter (Derived cs h) h cs b x sa at t sw
@@ -475,24 +482,27 @@ derived_of cs zero g z sa t sw a = absurd (kind_flat cs z sa t sw a.1)
 derived_of cs (suc h) g z sa t sw a =
     let k = kind_of cs h z sa t sw a.1 in
     let o = production_of g z a.0 in
-    let fl = follow cs h (λ g' z' sa' t' sw' a'. derived_of cs h g' z' sa' t' sw' a') (parts t) (home z) sa (start t) (end t) z sw k.1 o.item_there o.has o.made o.is o.out in
+    let fl = follow cs h (λ g' z' sa' t' sw' a'. derived_of cs h g' z' sa' t' sw' a') (parts t) (home z) sa (start t) (end t) z k.state k.path o.item_there o.has o.made o.is o.out in
     let none : fl.0 ≡ 0 = home_first z (item o.item_there.production fl.0) fl.1 in
-    let label : name t ≡ record { rule = o.made.rule; choice = o.made.choice } = some_is (sym k.0.0 ∙ o.label_is) in (
+    let label : name t ≡ record { rule = o.made.rule; choice = o.made.choice } = some_is (sym k.ended.0 ∙ o.label_is) in (
       o.made,
       (o.item_there.production, o.is),
       o.stands_for,
+      a.2,
       (
         ap (λ (l : Label). l.rule) label,
         ap (λ (l : Label). l.choice) label,
-        subst (λ (n : ℕ). d.Follows (Derived cs h) h cs o.made n sa (start t) (end t) (parts t) sw) none fl.2,
-        λ c token bar. k.0.1 c token (subst (λ (v : List Class). Has v c) (sym o.bars_same) bar),
+        k.state,
+        subst (λ (n : ℕ). d.Follows (Derived cs h) h cs o.made n sa (start t) (end t) (parts t) k.state) none fl.2,
+        (λ c token bar. k.ended.1 c token (subst (λ (v : List Class). Has v c) (sym o.bars_same) bar)),
+        subst (λ (b : Bool). sw ≡ leave b sa k.state) o.scoped_same k.leaves,
       ),
     )
 
 -- from productions to places
 -- a symbol of a production is that of an edge, or a nonterminal that the edge takes too
 abbrev Wider : Symbol → Symbol → ℕ → Type 0
-Wider x s y = (x ≡ s) ⊎ ((g : Nonterminal) × (m : Nonterminal) × (x ≡ Node g) × (s ≡ Node m) × Has (kinds m) y)
+Wider x s y = (x ≡ s) ⊎ ((g : Nonterminal) × (m : Nonterminal) × (x ≡ Node g) × (s ≡ Node m) × Has (kinds m) y × (shuns m ≡ None))
 
 record Forth (q n : ℕ) (x : Next) : Type 0 where
   edge_there : Edge
@@ -508,9 +518,10 @@ forth_to n x e s t xs et None c y w =
 forth_to n x e (Token k a) t xs et (Some w) c y way = absurd (false≢true c)
 forth_to n x e (Node g) (Token k a) xs et (Some w) c y way = absurd (false≢true c)
 forth_to n x e (Node g) (Node m) xs et (Some w) c y way =
-    let u = every_has (λ v. kind_in v (kinds m) && has_item (item n x.behind) (items (turned (Some w) e.next (is_named v)))) (kinds g) c y way in
+    let o = and_parts (not (is_some (shuns m))) _ c in
+    let u = every_has (λ v. kind_in v (kinds m) && has_item (item n x.behind) (items (turned (Some w) e.next (is_named v)))) (kinds g) o.1 y way in
     let q = and_parts (kind_in y (kinds m)) (has_item (item n x.behind) (items (turned (Some w) e.next (is_named y)))) u in
-    (item_has (item n x.behind) (items (turned (Some w) e.next (is_named y))) q.1, inr (g, m, xs, et, kind_has y (kinds m) q.0))
+    (item_has (item n x.behind) (items (turned (Some w) e.next (is_named y))) q.1, inr (g, m, xs, et, kind_has y (kinds m) q.0, none_is (shuns m) o.0))
 
 forth_of : (q n b : ℕ) (x : Next) → Has (items q) (item n b) → Has (nexts_item (item n b)) x → Forth q n x
 unfolding turn
@@ -543,7 +554,7 @@ module _ (cs : List Lexeme) (h : ℕ) (f : (g : Nonterminal) (sa : Scope) (t : T
   wide_reads x s y (inl e) sa at t sw r = subst (λ (v : Symbol). p.Reads (At cs h) h cs v y sa at t sw) e r
   wide_reads x s y (inr n) sa at t sw r =
       let u : p.Reads (At cs h) h cs (Node n.0) y sa at t sw = subst (λ (v : Symbol). p.Reads (At cs h) h cs v y sa at t sw) n.2 r in
-      let w : p.Reads (At cs h) h cs (Node n.1) y sa at t sw = ((n.4, u.0.1), u.1) in
+      let w : p.Reads (At cs h) h cs (Node n.1) y sa at t sw = ((n.4, u.0.1, all_open cs n.1 sa (start t) n.5), u.1) in
       subst (λ (v : Symbol). p.Reads (At cs h) h cs v y sa at t sw) (sym n.3) w
 
   after_back : (b : Option Separator) (x : Symbol) (sa : Scope) (at : ℕ) (t : Tree) (sw : Scope) → d.ReadsAfter (Derived cs h) h cs b x sa at t sw → (y : ℕ) × Way x y × p.ReadsAfter (At cs h) h cs b x y sa at t sw
@@ -622,17 +633,19 @@ kind_of_derived cs (suc h) g sa t sw a =
     let n = a.1.0 in
     let is = a.1.1 in
     let s = starting n r is in
-    let w = path_of cs h (λ g' sa' t' sw' a'. kind_of_derived cs h g' sa' t' sw' a') r n is (parts t) 0 s.first sa (start t) (end t) sw s.has a.3.2 in
+    let w = path_of cs h (λ g' sa' t' sw' a'. kind_of_derived cs h g' sa' t' sw' a') r n is (parts t) 0 s.first sa (start t) (end t) a.4.2 s.has a.4.3 in
     let z = w.last in
     let ends : ends_item (item n w.behind) ≡ true = subst (λ (v : Option Production). ends_by v w.behind ≡ true) (sym is) w.out in
     let l = label_at z (item n w.behind) r w.has is ends in
     let home_is : s.first ≡ home z = sym (w.home_is ∙ s.home_is) in
-    let label : record { rule = r.rule; choice = r.choice } ≡ name t = (let x = sym a.3.0 in let y = sym a.3.1 in (λ i. record { rule = x i; choice = y i })) in (
+    let label : record { rule = r.rule; choice = r.choice } ≡ name t = (let x = sym a.4.0 in let y = sym a.4.1 in (λ i. record { rule = x i; choice = y i })) in (
       z,
       (
         kinds_have g r.of a.2 z (own_kind z n w.behind r w.has is ends),
-        of_kind cs h z sa t sw (l.0 ∙ ap Some label, λ c token bar. a.3.3 c token (subst (λ (v : List Class). Has v c) l.1 bar))
-            (subst (λ (v : ℕ). Path (At cs h) h cs v sa (start t) (end t) (parts t) z sw) home_is w.path),
+        of_kind cs h z sa t sw a.4.2 (subst (λ (b : Bool). sw ≡ leave b sa a.4.2) (sym l.2) a.4.5)
+            (l.0 ∙ ap Some label, λ c token bar. a.4.4 c token (subst (λ (v : List Class). Has v c) l.1 bar))
+            (subst (λ (v : ℕ). Path (At cs h) h cs v sa (start t) (end t) (parts t) z a.4.2) home_is w.path),
+        a.3,
       ),
     )
 

@@ -1,5 +1,5 @@
 -- The loop over what goes on from a first node, and the parser's answer.
-use Rattle.std.proofs.Common.{◌≡◌, ℕ, zero, suc, ◌≤◌, ◌<◌, ◌-◌, List, [], ◌∷◌, inl, inr, arith, refl, sym, ◌∙◌, ap, subst, length}
+use Rattle.std.proofs.Common.{◌≡◌, ℕ, zero, suc, ◌≤◌, ◌<◌, ◌-◌, List, [], ◌∷◌, inl, inr, arith, refl, sym, ◌∙◌, ap, subst, length, Bool, true, false}
 use Rattle.std.specs.Prelude.{Option, Some, None, IfSome, IfOk, Result, Ok, Err}
 use Rattle.cl_tree.specs.declared.class.Class.{Class}
 use Rattle.cl_tree.specs.declared.nonterminal.Nonterminal.{Nonterminal}
@@ -12,14 +12,15 @@ use Rattle.cl_tree.specs.declared.tree.Tree.{Tree}
 use Rattle.cl_expr.specs.declared.reader.Found.{Found}
 use Rattle.cl_tree.specs.declared.lexeme.Lexeme.{Lexeme}
 use Rattle.cl_tree.specs.declared.scope.Scope.{Scope}
-use Rattle.cl_tree.specs.Scopes.{class_at}
+use Rattle.cl_tree.specs.Scopes.{class_at, leave}
+use Rattle.cl_expr.proofs.Bars.{all_open}
 use Rattle.cl_expr.proofs.Within.{class_within}
-use Rattle.cl_expr.specs.code.Table.{name_of, turn, home, corner, kinds, openers, suffixes, ends}
-use Rattle.cl_tree.specs.Derives.{Has, start, end, parts}
+use Rattle.cl_expr.specs.code.Table.{name_of, scoped, turn, home, corner, kinds, openers, suffixes, ends}
+use Rattle.cl_tree.specs.Derives.{Has, start, end, parts, Opened}
 use Rattle.cl_expr.specs.code.Paths.{name, node, Ended, ReadsAfter, Path, Kind, At, Whole}
 use Rattle.cl_expr.specs.code.Parses.{Enters, Stops, Halts, Gives, Sound, Parses, Half, Builds, Opens, GoesOn, Continues, Steps, Spine, here, next, Climbs}
 use Rattle.cl_expr.proofs.Checks.{some_is}
-use Rattle.cl_expr.proofs.Conditions.{Way, on, no_name, Cornered, cornered, left_halts, top, Reaches, reach, reach_left, one_opener, opener, suffix, Goes, one_suffix, goes_suffix}
+use Rattle.cl_expr.proofs.Conditions.{Way, on, no_name, Cornered, cornered, left_halts, top, Reaches, reach, reach_left, one_opener, opener, suffix, Goes, one_suffix, goes_suffix, left_open, cornered_unscoped, scoped_ends}
 use Rattle.cl_expr.proofs.Heights.{kind_le, kind_tall, kind_of, kind_flat, path_enters, path_le, First, node_is}
 
 none_not : {X : Type 0} {x : X} → None ≡ Some x → ⊥
@@ -31,6 +32,18 @@ ok_map P Q (Err e) f p = tt
 
 pub deeper : (P : ℕ → Type 0) (n : ℕ) → 0 < n → P (suc (n - 1)) → P n
 deeper P n some x = let e : suc (n - 1) ≡ n = omega arith in subst P e x
+
+-- what may not begin any tree of the nonterminal
+pub parses_shunned : (cs : List Lexeme) (h : ℕ) (sa : Scope) (g : Nonterminal) (at : ℕ) → (Opened cs g sa at → ⊥) → Parses cs h sa g at None
+parses_shunned cs h sa g at not = record { found = tt; only = λ t z w a e s. absurd (not (subst (λ (i : ℕ). Opened cs g sa i) e a.2)) }
+
+-- what stops a tree stops it at its end too, before the names of a block are gone
+pub inner_halts : (cs : List Lexeme) (z : ℕ) (sa sv w : Scope) (to : ℕ) → w ≡ leave (scoped z) sa sv → Halts cs w (home z) to → Halts cs sv (home z) to
+inner_halts cs z sa sv w to e halts = go (scoped z) refl e
+  where
+    go : (b : Bool) → scoped z ≡ b → w ≡ leave b sa sv → Halts cs sv (home z) to
+    go true is e' = λ k token has. scoped_ends z k is has
+    go false is e' = subst (λ (x : Scope). Halts cs x (home z) to) e' halts
 
 pub nothing_flat : (cs : List Lexeme) (sa : Scope) (g : Nonterminal) (at : ℕ) → Parses cs 0 sa g at None
 nothing_flat cs sa g at = record { found = tt; only = λ t z w a e s. absurd (kind_flat cs z sa t w a.1) }
@@ -56,11 +69,11 @@ module _ (cs : List Lexeme) (h : ℕ) (sa : Scope) (g : Nonterminal) (at : ℕ) 
 
   -- the token at the start of a node
   pub entered : (t : Tree) (z : ℕ) (w : Scope) → Kind cs (suc h) z sa t w → start t ≡ at → First cs sa at (Enters (home z))
-  entered t z w a e = (let k = kind_of cs h z sa t w a in go (parts t) k.0 (subst (λ (i : ℕ). Path (At cs h) h cs (home z) sa i (end t) (parts t) z w) e k.1))
+  entered t z w a e = (let k = kind_of cs h z sa t w a in go k.state (parts t) k.ended (subst (λ (i : ℕ). Path (At cs h) h cs (home z) sa i (end t) (parts t) z k.state) e k.path))
     where
-      go : (ps : List Tree) → Ended cs w z (end t) (name t) → Path (At cs h) h cs (home z) sa at (end t) ps z w → First cs sa at (Enters (home z))
-      go [] n p = absurd (no_name z (name t) (subst (λ (q : ℕ). name_of q ≡ Some (name t)) (sym p.1) n.0))
-      go (p ∷ ps) n path = path_enters cs h (home z) sa at (end t) p ps z w path
+      go : (v : Scope) (ps : List Tree) → Ended cs v z (end t) (name t) → Path (At cs h) h cs (home z) sa at (end t) ps z v → First cs sa at (Enters (home z))
+      go v [] n p = absurd (no_name z (name t) (subst (λ (q : ℕ). name_of q ≡ Some (name t)) (sym p.1) n.0))
+      go v (p ∷ ps) n path = path_enters cs h (home z) sa at (end t) p ps z v path
 
   pub opens_none : (k : Class) → class_at cs sa at ≡ Some k → ((s : ℕ) → Has (openers g) s → Enters s k → ⊥) → Opens cs h sa g at None
   opens_none k token not = record {
@@ -83,11 +96,11 @@ module _ (cs : List Lexeme) (h : ℕ) (sa : Scope) (g : Nonterminal) (at : ℕ) 
         let same : f.class ≡ k = some_is (sym f.token ∙ token) in
         let place : home z ≡ s = one_opener g (home z) s k h' (subst (Enters (home z)) same f.begins) has enters in
         let kind = kind_of cs h z sa t w a in
-        let path : Path (At cs h) h cs s sa at (end t) (parts t) z w
-        = subst (λ (v : ℕ). Path (At cs h) h cs v sa at (end t) (parts t) z w) place (subst (λ (i : ℕ). Path (At cs h) h cs (home z) sa i (end t) (parts t) z w) e kind.1) in
-        let inner : Halts cs w s (end t) = subst (λ (v : ℕ). Halts cs w v (end t)) place halts in
-        let gives : Gives r (node (name t) at (end t) (parts t)) z w = b.only (end t) (parts t) z w (name t) path kind.0 inner in
-        subst (λ (v : Tree). Gives r v z w) (node_is t at e) gives);
+        let path : Path (At cs h) h cs s sa at (end t) (parts t) z kind.state
+        = subst (λ (v : ℕ). Path (At cs h) h cs v sa at (end t) (parts t) z kind.state) place (subst (λ (i : ℕ). Path (At cs h) h cs (home z) sa i (end t) (parts t) z kind.state) e kind.path) in
+        let inner : Halts cs kind.state s (end t) = subst (λ (v : ℕ). Halts cs kind.state v (end t)) place (inner_halts cs z sa kind.state w (end t) kind.leaves halts) in
+        let gives : Gives r (node (name t) at (end t) (parts t)) z (leave (scoped z) sa kind.state) = b.only (end t) (parts t) z kind.state (name t) path kind.ended inner in
+        subst (λ (v : Tree). Gives r v z w) (node_is t at e) (subst (λ (v : Scope). Gives r (node (name t) at (end t) (parts t)) z v) (sym kind.leaves) gives));
   }
     where
       found : (r : Option Found) → Builds cs h sa sa s [] at at r → IfSome r (λ f. Sound cs (suc h) sa f × (start f.tree ≡ at))
@@ -109,7 +122,7 @@ continues_le : (cs : List Lexeme) (h k : ℕ) (sa : Scope) (a : Tree) (y : ℕ) 
 continues_le cs h k sa a y sb t z w le c = record {
   cornered = c.cornered;
   is = c.is;
-  takes = (c.takes.0, kind_le cs h k y sa a sb le c.takes.1);
+  takes = (c.takes.0, kind_le cs h k y sa a sb le c.takes.1, c.takes.2);
   from = c.from;
   rest = c.rest;
   parts_are = c.parts_are;
@@ -144,7 +157,10 @@ record Headed (cs : List Lexeme) (h : ℕ) (sa : Scope) (t : Tree) (z : ℕ) (w 
   continues : Continues cs h sa left place state t z w
 
 headed : (cs : List Lexeme) (h : ℕ) (sa : Scope) (t : Tree) (z : ℕ) (w : Scope) (c : Head) → corner (home z) ≡ Some c → Kind cs (suc h) z sa t w → Headed cs h sa t z w
-headed cs h sa t z w c is a = let k = kind_of cs h z sa t w a in go (parts t) refl k.0 k.1
+headed cs h sa t z w c is a =
+    let k = kind_of cs h z sa t w a in
+    let state_is : k.state ≡ w = sym (k.leaves ∙ ap (λ (b : Bool). leave b sa k.state) (cornered_unscoped z c is)) in
+    go (parts t) refl (subst (λ (v : Scope). Ended cs v z (end t) (name t)) state_is k.ended) (subst (λ (v : Scope). Path (At cs h) h cs (home z) sa (start t) (end t) (parts t) z v) state_is k.path)
   where
     go : (ps : List Tree) → parts t ≡ ps → Ended cs w z (end t) (name t) → Path (At cs h) h cs (home z) sa (start t) (end t) ps z w → Headed cs h sa t z w
     go [] same ended p = absurd (no_name z (name t) (subst (λ (q : ℕ). name_of q ≡ Some (name t)) (sym p.1) ended.0))
@@ -312,7 +328,8 @@ module _ (cs : List Lexeme) (h : ℕ) (sa : Scope) (s : ℕ) (left : Found) (sou
     half_step low = record {
       joins = λ n to rest z sv le p. (
           let e = facts.some_edge in
-          let reads : ReadsAfter (At cs n) n cs None (Node c.goal) left.place sa (start left.tree) left.tree left.scope = ((takes, kind_le cs left.height n left.place sa left.tree left.scope le sound.kind), refl) in
+          let reads : ReadsAfter (At cs n) n cs None (Node c.goal) left.place sa (start left.tree) left.tree left.scope
+          = ((takes, kind_le cs left.height n left.place sa left.tree left.scope le sound.kind, all_open cs c.goal sa (start left.tree) (left_open s c is)), refl) in
           let place : turn e.0.next left.place ≡ c.next = ap (λ (v : ℕ). turn v left.place) e.3 ∙ facts.turn left.place in
           let reads' : ReadsAfter (At cs n) n cs e.0.before e.0.symbol left.place sa (start left.tree) left.tree left.scope
           = subst (λ (b : Option Separator). ReadsAfter (At cs n) n cs b e.0.symbol left.place sa (start left.tree) left.tree left.scope) (sym e.4)
@@ -338,7 +355,9 @@ module _ (cs : List Lexeme) (h : ℕ) (sa : Scope) (s : ℕ) (left : Found) (sou
           let path : Path (At cs h) h cs c.next left.scope (end left.tree) (end t) n.rest z w = subst (λ (v : Head). Path (At cs h) h cs v.next left.scope (end left.tree) (end t) n.rest z w) same n.path in
           let inner : Halts cs w s (end t) = halts in
           let halts' : Halts cs w c.next (end t) = λ k token has. inner k token (next_ends k has) in
-          let gives : Gives r (node (name t) (start left.tree) (end t) (left.tree ∷ n.rest)) z w = b.only (end t) n.rest z w (name t) path n.ended halts' in
+          let given : Gives r (node (name t) (start left.tree) (end t) (left.tree ∷ n.rest)) z (leave (scoped z) sa w) = b.only (end t) n.rest z w (name t) path n.ended halts' in
+          let gives : Gives r (node (name t) (start left.tree) (end t) (left.tree ∷ n.rest)) z w
+          = subst (λ (b : Bool). Gives r (node (name t) (start left.tree) (end t) (left.tree ∷ n.rest)) z (leave b sa w)) (cornered_unscoped z n.cornered n.is) given in
           let whole : node (name t) (start left.tree) (end t) (left.tree ∷ n.rest) ≡ t
           = ap (λ (v : List Tree). node (name t) (start left.tree) (end t) v) (sym n.parts_are) ∙ node_is t (start left.tree) (sym n.from) in
           subst (λ (v : Tree). Gives r v z w) whole gives);
@@ -385,15 +404,15 @@ module _ (cs : List Lexeme) (h : ℕ) (sa : Scope) (g : Nonterminal) (at : ℕ) 
       only = λ t z w a e stops. (let same = climbed (Some f) x t z w a e stops in not (subst (Has (kinds g)) (sym same.1) a.0));
     }
 
-    pub parses_some : (f : Found) → Climbs cs h sa g first (Some f) → Has (kinds g) f.place → Parses cs (suc h) sa g at (Some f)
-    parses_some f x kind = record {
-      found = (let y = x.found in (y.0, kind, y.1 ∙ o.found.1));
+    pub parses_some : (f : Found) → Climbs cs h sa g first (Some f) → Has (kinds g) f.place → Opened cs g sa at → Parses cs (suc h) sa g at (Some f)
+    parses_some f x kind begun = record {
+      found = (let y = x.found in (y.0, kind, y.1 ∙ o.found.1, begun));
       only = λ t z w a e stops. climbed (Some f) x t z w a e stops;
     }
 
 -- the whole answer
 pub whole_found : (cs : List Lexeme) (sa : Scope) (g : Nonterminal) (first : ℕ) (f : Found) → Parses cs 512 sa g first (Some f) → end f.tree ≡ length cs → Whole g cs sa first f.tree f.scope
-whole_found cs sa g first f p e = let o = p.found in record { kind = f.place; at = (o.1, kind_le cs f.height 512 f.place sa f.tree f.scope o.0.high o.0.kind); from = o.2; to = e }
+whole_found cs sa g first f p e = let o = p.found in record { kind = f.place; at = (o.1, kind_le cs f.height 512 f.place sa f.tree f.scope o.0.high o.0.kind, subst (λ (i : ℕ). Opened cs g sa i) (sym o.2) o.3); from = o.2; to = e }
 
 pub whole_only : (cs : List Lexeme) (sa : Scope) (g : Nonterminal) (first : ℕ) (r : Option Found) (t : Tree) (w : Scope) → Parses cs 512 sa g first r → Whole g cs sa first t w → (z : ℕ) × Gives r t z w
 whole_only cs sa g first r t w p d =

@@ -12,10 +12,10 @@ use Rattle.cl_expr.specs.declared.table.Edge.{Edge}
 use Rattle.cl_expr.specs.declared.table.Head.{Head}
 use Rattle.cl_expr.specs.declared.table.Ways.{Ways}
 use Rattle.cl_expr.specs.declared.table.Label.{Label}
-use Rattle.cl_expr.specs.code.Table.{Place, places, nowhere, place, goal, goals, number, edges, name_of, bars, is_named, turning, turned, turn, home, corner, kinds, openers, suffixes, firsts, ends, goes}
-use Rattle.cl_tree.specs.Derives.{Has}
+use Rattle.cl_expr.specs.code.Table.{Place, places, nowhere, place, goal, goals, number, edges, name_of, bars, scoped, is_named, turning, turned, turn, home, corner, kinds, openers, suffixes, firsts, ends, goes}
+use Rattle.cl_tree.specs.Derives.{Has, barred}
 use Rattle.cl_expr.specs.code.Parses.{BeginsSymbol, Begins, Enters}
-use Rattle.cl_tree.specs.Grammar.{takes}
+use Rattle.cl_tree.specs.Grammar.{takes, shuns}
 use Rattle.cl_expr.proofs.All.{all_goals, numbered_goal, class_number, same_class_is, same_goal_is}
 use Rattle.cl_expr.proofs.Checks.{every, some, pairwise, member, when, is_some, on_some, when_use, not_use, some_true, none_is, none_true, none_not, on_some_use, some_is, every_has, some_at, pairwise_one, has_member, member_left, member_right, member_has, every_member}
 
@@ -154,6 +154,18 @@ c_corner s = on_some (λ c. lone c (edges s) && (not (is_some (turning c.next)) 
 abbrev c_left : ℕ → Bool
 c_left s = on_some (λ c. every (λ y. apart (entering c.next) (ends (home y))) (kinds c.goal)) (corner s)
 
+-- before a production that is read later nothing is shunned
+abbrev c_open : ℕ → Bool
+c_open s = on_some (λ c. not (is_some (shuns c.goal))) (corner s)
+
+abbrev is_empty : List Class → Bool
+is_empty [] = true
+is_empty (k ∷ ks) = false
+
+-- nothing goes on from a block, and it begins with a token
+abbrev c_scoped : ℕ → Bool
+c_scoped z = when (scoped z) (is_empty (ends (home z)) && not (is_some (corner (home z))))
+
 abbrev reaches : Nonterminal → ℕ → Bool
 reaches g s = kind_in s (openers g) || kind_in s (suffixes g)
 
@@ -161,7 +173,7 @@ abbrev c_top : Nonterminal → Bool
 c_top g = every (λ z. within (ends (home z)) (goes g)) (kinds g)
 
 abbrev c_firsts : Nonterminal → Bool
-c_firsts g = every (λ z. within (entering (home z)) (firsts g)) (kinds g)
+c_firsts g = every (λ z. every (λ k. among k (barred (shuns g)) || among k (firsts g)) (entering (home z))) (kinds g)
 
 abbrev c_reach : Nonterminal → Bool
 c_reach g = every (λ z. reaches g (home z)) (kinds g)
@@ -243,8 +255,16 @@ places_left : every_place c_left ≡ true
 unfolding places place edges corner home ends firsts kinds goal goals
 places_left = refl
 
+places_open : every_place c_open ≡ true
+unfolding places place corner shuns
+places_open = refl
+
+places_scoped : every_place c_scoped ≡ true
+unfolding places place scoped home ends corner
+places_scoped = refl
+
 goals_checked : every c_goal all_goals ≡ true
-unfolding places place edges name_of bars is_named turning turn home corner kinds openers suffixes firsts ends goes goal goals
+unfolding shuns places place edges name_of bars is_named turning turn home corner kinds openers suffixes firsts ends goes goal goals
 goals_checked = refl
 
 -- a place that the table doesn't have is nowhere
@@ -265,10 +285,11 @@ record Looks (q : ℕ) : Type 0 where
   label_none : name_of q ≡ None
   corner_none : corner q ≡ None
   home_first : home q ≡ 0
+  scoped_false : scoped q ≡ false
 
 looks : (q : ℕ) → place q ≡ nowhere → Looks q
-unfolding edges name_of corner home
-looks q e = record { edges_none = ap (λ (p : Place). p.edges) e; label_none = ap (λ (p : Place). p.label) e; corner_none = ap (λ (p : Place). p.corner) e; home_first = ap (λ (p : Place). p.home) e }
+unfolding edges name_of corner home scoped
+looks q e = record { edges_none = ap (λ (p : Place). p.edges) e; label_none = ap (λ (p : Place). p.label) e; corner_none = ap (λ (p : Place). p.corner) e; home_first = ap (λ (p : Place). p.home) e; scoped_false = ap (λ (p : Place). p.scoped) e }
 
 first_unnamed : name_of 0 ≡ None
 unfolding places place name_of
@@ -291,6 +312,8 @@ record PlaceFacts (q : ℕ) : Type 0 where
   unnamed : c_unnamed q ≡ true
   corner : c_corner q ≡ true
   left : c_left q ≡ true
+  opened : c_open q ≡ true
+  scoped : c_scoped q ≡ true
 
 place_facts : (q : ℕ) → PlaceFacts q
 place_facts q = elim (either q) [
@@ -305,6 +328,8 @@ place_facts q = elim (either q) [
     unnamed = rw (l.home_first, first_unnamed) refl;
     corner = rw l.corner_none refl;
     left = rw l.corner_none refl;
+    opened = rw l.corner_none refl;
+    scoped = rw l.scoped_false refl;
   })
   | inr h ↦ record {
     apart = every_has c_apart (numbers 0 places) places_apart q h;
@@ -317,6 +342,8 @@ place_facts q = elim (either q) [
     unnamed = every_has c_unnamed (numbers 0 places) places_unnamed q h;
     corner = every_has c_corner (numbers 0 places) places_corner q h;
     left = every_has c_left (numbers 0 places) places_left q h;
+    opened = every_has c_open (numbers 0 places) places_open q h;
+    scoped = every_has c_scoped (numbers 0 places) places_scoped q h;
   }
 ]
 
@@ -460,9 +487,37 @@ pub top : (g : Nonterminal) (z : ℕ) (k : Class) → Has (kinds g) z → Has (e
 top g z k h has =
     within_use (ends (home z)) (goes g) k (every_has (λ v. within (ends (home v)) (goes g)) (kinds g) (goal_facts g).top z h) (has_among k (ends (home z)) has)
 
-pub firsts_have : (g : Nonterminal) (z : ℕ) (k : Class) → Has (kinds g) z → Enters (home z) k → Has (firsts g) k
-firsts_have g z k h n =
-    within_use (entering (home z)) (firsts g) k (every_has (λ v. within (entering (home v)) (firsts g)) (kinds g) (goal_facts g).firsts z h) (enters_among (home z) k n)
+pub firsts_have : (g : Nonterminal) (z : ℕ) (k : Class) → Has (kinds g) z → Enters (home z) k → (Has (barred (shuns g)) k → ⊥) → Has (firsts g) k
+firsts_have g z k h n begun =
+    let t = every_has (λ v. every (λ k. among k (barred (shuns g)) || among k (firsts g)) (entering (home v))) (kinds g) (goal_facts g).firsts z h in
+    elim (or_cases (among k (barred (shuns g))) (among k (firsts g)) (every_member class_number same_class_is (λ v. among v (barred (shuns g)) || among v (firsts g)) (entering (home z)) t k (enters_among (home z) k n))) [
+      | inl x ↦ absurd (begun (among_has k (barred (shuns g)) x))
+      | inr y ↦ among_has k (firsts g) y
+    ]
+
+-- a production that begins with a left part: that part shuns nothing, and the node is no block
+pub left_open : (s : ℕ) (c : Head) → corner s ≡ Some c → shuns c.goal ≡ None
+left_open s c e = none_is (shuns c.goal) (on_some_use (λ d. not (is_some (shuns d.goal))) (corner s) c e (place_facts s).opened)
+
+bool_cases : (b : Bool) → (b ≡ true) ⊎ (b ≡ false)
+bool_cases true = inl refl
+bool_cases false = inr refl
+
+empty_none : (ks : List Class) → is_empty ks ≡ true → (k : Class) → Has ks k → ⊥
+empty_none [] t k h = none_not h.1
+empty_none (x ∷ ks) t k h = false≢true t
+
+scoped_facts : (z : ℕ) → scoped z ≡ true → (is_empty (ends (home z)) ≡ true) × (not (is_some (corner (home z))) ≡ true)
+scoped_facts z is = and_parts (is_empty (ends (home z))) (not (is_some (corner (home z)))) (when_use (scoped z) _ (place_facts z).scoped is)
+
+pub cornered_unscoped : (z : ℕ) (c : Head) → corner (home z) ≡ Some c → scoped z ≡ false
+cornered_unscoped z c e = elim (bool_cases (scoped z)) [
+  | inl t ↦ absurd (none_not (sym (none_is (corner (home z)) (scoped_facts z t).1) ∙ e))
+  | inr f ↦ f
+]
+
+pub scoped_ends : (z : ℕ) (k : Class) → scoped z ≡ true → Has (ends (home z)) k → ⊥
+scoped_ends z k is has = empty_none (ends (home z)) (scoped_facts z is).0 k has
 
 -- the productions of a nonterminal's left end
 abbrev pub Reaches : Nonterminal → ℕ → Type 0

@@ -114,11 +114,11 @@ module _ (cs : List Lexeme) (h : ℕ) (ok : Symbol → Bool) (z : ℕ) (f : (q :
   path_last (r ∷ ps) p q s at to v path = path_last ps r (turn path.0.next path.1) path.2 (end p) to v path.5
 
   kind_last : (s : Scope) (t : Tree) (w : Scope) → Kind cs (suc h) z s t w → Last cs h (end t) ok
-  kind_last s t w a = (let k = kind_of cs h z s t w a in go (parts t) k.0 k.1)
+  kind_last s t w a = (let k = kind_of cs h z s t w a in go k.state (parts t) k.ended k.path)
     where
-      go : (ps : List Tree) → Ended cs w z (end t) (name t) → Path (At cs h) h cs (home z) s (start t) (end t) ps z w → Last cs h (end t) ok
-      go [] ended p = absurd (no_name z (name t) (subst (λ (q : ℕ). name_of q ≡ Some (name t)) (sym p.1) ended.0))
-      go (p ∷ ps) ended path = path_last ps p (home z) s (start t) (end t) w path
+      go : (v : Scope) (ps : List Tree) → Ended cs v z (end t) (name t) → Path (At cs h) h cs (home z) s (start t) (end t) ps z v → Last cs h (end t) ok
+      go v [] ended p = absurd (no_name z (name t) (subst (λ (q : ℕ). name_of q ≡ Some (name t)) (sym p.1) ended.0))
+      go v (p ∷ ps) ended path = path_last ps p (home z) s (start t) (end t) v path
 
 piece_end : (cs : List Lexeme) (c : Terminal) (at to : ℕ) (p : Tree) → p ≡ piece cs c at → end p ≡ to → to - 1 ≡ last_token cs c at
 piece_end cs c at to p is e = let x : to ≡ last_token cs c at + 1 = sym e ∙ ap end is ∙ end_piece cs c at in omega (arith, x)

@@ -11,9 +11,9 @@ use Rattle.cl_expr.specs.declared.table.Label.{Label}
 use Rattle.cl_tree.specs.declared.tree.Tree.{Tree, Tree-F, out-roll-Tree, roll-out-Tree}
 use Rattle.cl_tree.specs.declared.lexeme.Lexeme.{Lexeme}
 use Rattle.cl_tree.specs.declared.scope.Scope.{Scope}
-use Rattle.cl_tree.specs.Scopes.{class_at, pass}
-use Rattle.cl_expr.specs.code.Table.{name_of, turn, home, kinds, firsts}
-use Rattle.cl_tree.specs.Derives.{Has, start, end, parts, piece, last_token}
+use Rattle.cl_tree.specs.Scopes.{class_at, pass, leave}
+use Rattle.cl_expr.specs.code.Table.{name_of, scoped, turn, home, kinds, firsts}
+use Rattle.cl_tree.specs.Derives.{Has, start, end, parts, piece, last_token, Opened}
 use Rattle.cl_expr.specs.code.Paths.{name, node, Ended, Reads, ReadsAfter, Path, Kind, At}
 use Rattle.cl_expr.specs.code.Parses.{AllOf, Tall, BeginsSymbol, Begins, Enters}
 use Rattle.cl_expr.proofs.Conditions.{no_name, firsts_have}
@@ -36,20 +36,26 @@ unfolding Kind
 kind_le cs zero k z sa t sw le a = elim a [ ]
 kind_le cs (suc h) zero z sa t sw le a = absurd (omega arith)
 kind_le cs (suc h) (suc k) z sa t sw le a =
-    (a.0, path_map cs (At cs h) (At cs k) h k (omega arith) (λ g y s' p w' d. (d.0, kind_le cs h k y s' p w' (omega arith) d.1)) (parts t) (home z) sa (start t) (end t) z sw a.1)
+    (a.0, a.1, a.2, path_map cs (At cs h) (At cs k) h k (omega arith) (λ g y s' p w' d. (d.0, kind_le cs h k y s' p w' (omega arith) d.1, d.2)) (parts t) (home z) sa (start t) (end t) z a.0 a.3)
 
 pub path_le : (cs : List Lexeme) (h k : ℕ) → h ≤ k → (ps : List Tree) (q : ℕ) (sa : Scope) (at to : ℕ) (z : ℕ) (sv : Scope) → Path (At cs h) h cs q sa at to ps z sv → Path (At cs k) k cs q sa at to ps z sv
-path_le cs h k le ps q sa at to z sv s = path_map cs (At cs h) (At cs k) h k le (λ g y s' p w' d. (d.0, kind_le cs h k y s' p w' le d.1)) ps q sa at to z sv s
+path_le cs h k le ps q sa at to z sv s = path_map cs (At cs h) (At cs k) h k le (λ g y s' p w' d. (d.0, kind_le cs h k y s' p w' le d.1, d.2)) ps q sa at to z sv s
 
-pub kind_of : (cs : List Lexeme) (h : ℕ) (z : ℕ) (sa : Scope) (t : Tree) (sw : Scope) → Kind cs (suc h) z sa t sw
-    → Ended cs sw z (end t) (name t) × Path (At cs h) h cs (home z) sa (start t) (end t) (parts t) z sw
-unfolding Kind
-kind_of cs h z sa t sw a = a
+-- a tree of a kind from within: what is declared at its end, and its parts
+pub record Inside (cs : List Lexeme) (h : ℕ) (z : ℕ) (sa : Scope) (t : Tree) (sw : Scope) : Type 0 where
+  pub state : Scope
+  pub leaves : sw ≡ leave (scoped z) sa state
+  pub ended : Ended cs state z (end t) (name t)
+  pub path : Path (At cs h) h cs (home z) sa (start t) (end t) (parts t) z state
 
-pub of_kind : (cs : List Lexeme) (h : ℕ) (z : ℕ) (sa : Scope) (t : Tree) (sw : Scope) → Ended cs sw z (end t) (name t)
-    → Path (At cs h) h cs (home z) sa (start t) (end t) (parts t) z sw → Kind cs (suc h) z sa t sw
+pub kind_of : (cs : List Lexeme) (h : ℕ) (z : ℕ) (sa : Scope) (t : Tree) (sw : Scope) → Kind cs (suc h) z sa t sw → Inside cs h z sa t sw
 unfolding Kind
-of_kind cs h z sa t sw e p = (e, p)
+kind_of cs h z sa t sw a = record { state = a.0; leaves = a.1; ended = a.2; path = a.3 }
+
+pub of_kind : (cs : List Lexeme) (h : ℕ) (z : ℕ) (sa : Scope) (t : Tree) (sw sv : Scope) → sw ≡ leave (scoped z) sa sv → Ended cs sv z (end t) (name t)
+    → Path (At cs h) h cs (home z) sa (start t) (end t) (parts t) z sv → Kind cs (suc h) z sa t sw
+unfolding Kind
+of_kind cs h z sa t sw sv l e p = (sv, l, e, p)
 
 pub kind_flat : (cs : List Lexeme) (z : ℕ) (sa : Scope) (t : Tree) (sw : Scope) → Kind cs 0 z sa t sw → ⊥
 unfolding Kind
@@ -67,7 +73,7 @@ tall_piece cs c (suc h) at l = subst (λ (x : Tree-F Tree). AllOf (Tall h) x.par
 pub kind_tall : (cs : List Lexeme) (h : ℕ) (z : ℕ) (sa : Scope) (t : Tree) (sw : Scope) → Kind cs h z sa t sw → Tall h t
 unfolding Kind Tall
 kind_tall cs zero z sa t sw a = a
-kind_tall cs (suc h) z sa t sw a = go (λ y s' p w' b. kind_tall cs h y s' p w' b) (parts t) (home z) sa (start t) sw a.1
+kind_tall cs (suc h) z sa t sw a = go (λ y s' p w' b. kind_tall cs h y s' p w' b) (parts t) (home z) sa (start t) a.0 a.3
   where
     one : ((y : ℕ) (s' : Scope) (p : Tree) (w' : Scope) → Kind cs h y s' p w' → Tall h p) → (x : Symbol) (y : ℕ) (s' : Scope) (at : ℕ) (p : Tree) (w' : Scope) → Reads (At cs h) h cs x y s' at p w' → Tall h p
     one f (Token c a) y s' at p w' r = subst (Tall h) (sym r.2) (tall_piece cs c h at r.1)
@@ -111,17 +117,17 @@ reads_by cs h f None x y sa at p sw r = symbol_by cs h f x y sa at p sw r
 reads_by cs h f (Some b) x y sa at p sw r = record { class = b.class; token = r.0; begins = refl }
 
 begins_by : (cs : List Lexeme) (h : ℕ) → FirstOf cs h
-    → (g : Nonterminal) (z : ℕ) (sa : Scope) (at to : ℕ) (n : Label) (sv : Scope) → Has (kinds g) z → (ps : List Tree) → Ended cs sv z to n → Path (At cs h) h cs (home z) sa at to ps z sv → First cs sa at (Has (firsts g))
-begins_by cs h f g z sa at to n sv k [] e s = absurd (no_name z n (subst (λ (q : ℕ). name_of q ≡ Some n) (sym s.1) e.0))
-begins_by cs h f g z sa at to n sv k (p ∷ ps) e s =
+    → (g : Nonterminal) (z : ℕ) (sa : Scope) (at to : ℕ) (n : Label) (sv : Scope) → Has (kinds g) z → Opened cs g sa at → (ps : List Tree) → Ended cs sv z to n → Path (At cs h) h cs (home z) sa at to ps z sv → First cs sa at (Has (firsts g))
+begins_by cs h f g z sa at to n sv k begun [] e s = absurd (no_name z n (subst (λ (q : ℕ). name_of q ≡ Some n) (sym s.1) e.0))
+begins_by cs h f g z sa at to n sv k begun (p ∷ ps) e s =
     let o = reads_by cs h f s.0.before s.0.symbol s.1 sa at p s.2 s.4 in
-    record { class = o.class; token = o.token; begins = firsts_have g z o.class k (s.0, s.3, o.begins) }
+    record { class = o.class; token = o.token; begins = firsts_have g z o.class k (s.0, s.3, o.begins) (begun o.class o.token) }
 
 pub first_class : (cs : List Lexeme) (h : ℕ) (g : Nonterminal) (z : ℕ) (sa : Scope) (t : Tree) (sw : Scope) → At cs h g z sa t sw → First cs sa (start t) (Has (firsts g))
 first_class cs zero g z sa t sw a = absurd (kind_flat cs z sa t sw a.1)
 first_class cs (suc h) g z sa t sw a =
     let b = kind_of cs h z sa t sw a.1 in
-    begins_by cs h (λ b y s' p w' d. first_class cs h b y s' p w' d) g z sa (start t) (end t) (name t) sw a.0 (parts t) b.0 b.1
+    begins_by cs h (λ b y s' p w' d. first_class cs h b y s' p w' d) g z sa (start t) (end t) (name t) b.state a.0 a.2 (parts t) b.ended b.path
 
 pub reads_first : (cs : List Lexeme) (h : ℕ) (b : Option Separator) (x : Symbol) (y : ℕ) (sa : Scope) (at : ℕ) (p : Tree) (sw : Scope) → ReadsAfter (At cs h) h cs b x y sa at p sw → First cs sa at (Begins b x)
 reads_first cs h b x y sa at p sw r = reads_by cs h (λ b y s' p w' d. first_class cs h b y s' p w' d) b x y sa at p sw r

@@ -12,9 +12,9 @@ use Rattle.cl_expr.specs.declared.table.Label.{Label}
 use Rattle.cl_tree.specs.declared.tree.Tree.{Tree}
 use Rattle.cl_tree.specs.declared.lexeme.Lexeme.{Lexeme}
 use Rattle.cl_tree.specs.declared.scope.Scope.{Scope}
-use Rattle.cl_tree.specs.Scopes.{class_at, pass}
+use Rattle.cl_tree.specs.Scopes.{class_at, pass, leave}
 use Rattle.cl_expr.proofs.Within.{class_within}
-use Rattle.cl_expr.specs.code.Table.{edges, name_of, bars, turn, home, corner, kinds, openers, suffixes, ends}
+use Rattle.cl_expr.specs.code.Table.{edges, name_of, bars, scoped, turn, home, corner, kinds, openers, suffixes, ends}
 use Rattle.cl_tree.specs.Derives.{Has, start, end, parts}
 use Rattle.cl_expr.specs.code.Paths.{name, node, Ended, Reads, ReadsAfter, Path, Kind, At, Whole}
 use Rattle.cl_expr.specs.code.Parses.{Begins, Enters, Stops, Halts, StopsSymbol, Continues, Spine, here, next}
@@ -22,7 +22,7 @@ use Rattle.cl_expr.proofs.Checks.{some_is}
 use Rattle.cl_expr.proofs.Conditions.{Way, one_edge, more, on, held, shut, plain_next, cornered, reach, one_opener, opener, one_suffix, goes_suffix, top}
 use Rattle.cl_expr.proofs.Heights.{kind_of, kind_flat, path_enters, reads_first, node_is}
 use Rattle.cl_expr.proofs.Reading.{way_of}
-use Rattle.cl_expr.proofs.Climb.{corner_of, entered, continued, continues_goes}
+use Rattle.cl_expr.proofs.Climb.{corner_of, entered, inner_halts, continued, continues_goes}
 
 -- two trees of a nonterminal from one place and one state are the same, also in kind and in the state after them
 abbrev One : List Lexeme → ℕ → Type 0
@@ -108,12 +108,13 @@ module _ (cs : List Lexeme) (h : ℕ) (one : One cs h) where
       let home_is : home x ≡ home z = one_opener g (home x) (home z) ft.class ox (subst (Enters (home x)) class_is fu.begins) oz ft.begins in
       let ka = kind_of cs h z sa t w a in
       let kb = kind_of cs h x sa u y b in
-      let pb : Path (At cs h) h cs (home z) sa (start t) (end u) (parts u) x y
-      = subst (λ (v : ℕ). Path (At cs h) h cs v sa (start t) (end u) (parts u) x y) home_is (subst (λ (i : ℕ). Path (At cs h) h cs (home x) sa i (end u) (parts u) x y) (sym e) kb.1) in
-      let same = one_path (parts t) (parts u) (home z) sa (start t) (end t) (end u) z x w y (name t) (name u) (opener g (home z) oz).1 ka.1 pb ka.0 kb.0
-      ht (subst (λ (v : ℕ). Halts cs y v (end u)) home_is hu) in
-      let name_is : name t ≡ name u = some_is (sym ka.0.0 ∙ ap name_of same.2 ∙ kb.0.0) in
-      (same_node t u name_is e same.1 same.0, same.2, same.3)
+      let pb : Path (At cs h) h cs (home z) sa (start t) (end u) (parts u) x kb.state
+      = subst (λ (v : ℕ). Path (At cs h) h cs v sa (start t) (end u) (parts u) x kb.state) home_is (subst (λ (i : ℕ). Path (At cs h) h cs (home x) sa i (end u) (parts u) x kb.state) (sym e) kb.path) in
+      let same = one_path (parts t) (parts u) (home z) sa (start t) (end t) (end u) z x ka.state kb.state (name t) (name u) (opener g (home z) oz).1 ka.path pb ka.ended kb.ended
+      (inner_halts cs z sa ka.state w (end t) ka.leaves ht) (subst (λ (v : ℕ). Halts cs kb.state v (end u)) home_is (inner_halts cs x sa kb.state y (end u) kb.leaves hu)) in
+      let name_is : name t ≡ name u = some_is (sym ka.ended.0 ∙ ap name_of same.2 ∙ kb.ended.0) in
+      let state_is : w ≡ y = ka.leaves ∙ (λ i. leave (scoped (same.2 i)) sa (same.3 i)) ∙ sym kb.leaves in
+      (same_node t u name_is e same.1 same.0, same.2, state_is)
 
   one_next : (g : Nonterminal) (sa : Scope) (a : Tree) (y : ℕ) (sb : Scope) (t u : Tree) (z x : ℕ) (w v' : Scope) → Has (suffixes g) (home z) → Has (suffixes g) (home x)
       → Continues cs h sa a y sb t z w → Continues cs h sa a y sb u x v' → Halts cs w (home z) (end t) → Halts cs v' (home x) (end u) → (t ≡ u) × (z ≡ x) × (w ≡ v')

@@ -15,13 +15,13 @@ use Rattle.cl_tree.specs.declared.tree.Tree.{Tree, Tree-F, out-Tree, out-roll-Tr
 use Rattle.cl_expr.specs.declared.reader.Found.{Found}
 use Rattle.cl_tree.specs.declared.lexeme.Lexeme.{Lexeme}
 use Rattle.cl_tree.specs.declared.scope.Scope.{Scope}
-use Rattle.cl_tree.specs.Scopes.{class_at, pass}
+use Rattle.cl_tree.specs.Scopes.{class_at, pass, leave}
 use Rattle.cl_tree.specs.Grammar.{takes}
 use Rattle.cl_tree.specs.declared.grammar.Terminal.{Terminal}
 use Rattle.cl_tree.specs.declared.grammar.Act.{Act}
 use Rattle.cl_expr.proofs.Within.{class_within}
-use Rattle.cl_expr.specs.code.Table.{edges, name_of, bars, turn, home, corner}
-use Rattle.cl_tree.specs.Derives.{Has, start, end, parts, leaf, hole, piece, last_token, partner_of, is_body, Closed}
+use Rattle.cl_expr.specs.code.Table.{edges, name_of, bars, scoped, turn, home, corner}
+use Rattle.cl_tree.specs.Derives.{Has, start, end, parts, leaf, hole, piece, last_token, partner_of, is_body, Closed, Opened}
 use Rattle.cl_expr.specs.code.Paths.{name, node, Ended, Reads, ReadsAfter, Path, Kind, At}
 use Rattle.cl_expr.specs.code.Parses.{AllOf, Tall, Begins, Enters, Halts, StopsSymbol, Parses, SoundPart, Part, Half, Builds}
 use Rattle.cl_expr.proofs.Checks.{some_is}
@@ -102,7 +102,7 @@ part_node cs h sa g at (Some f) p =
     let o = p.found in
     record {
       found = record {
-        reads = λ n l. ((o.1, kind_le cs f.height n f.place sa f.tree f.scope l o.0.kind), o.2);
+        reads = λ n l. ((o.1, kind_le cs f.height n f.place sa f.tree f.scope l o.0.kind, subst (λ (i : ℕ). Opened cs g sa i) (sym o.2) o.3), o.2);
         grows = subst (λ (i : ℕ). i < end f.tree) o.2 o.0.grows;
         within = o.0.within;
         least = o.0.least;
@@ -293,7 +293,7 @@ module _ (cs : List Lexeme) (h : ℕ) (sa s0 : Scope) (q0 : ℕ) (ps0 : List Tre
     }
 
     pub reading_end : (n : Label) → name_of q0 ≡ None → Ended cs sm q mid n
-        → Builds cs h sa s0 q0 ps0 from mid0 (Some (record { tree = node n from mid ps; place = q; scope = sm; height = height + 1 }))
+        → Builds cs h sa s0 q0 ps0 from mid0 (Some (record { tree = node n from mid ps; place = q; scope = leave (scoped q) sa sm; height = height + 1 }))
     reading_end n unnamed ended =
         let low : height ≤ h = r.half.high in
         let path : Path (At cs height) height cs (home q) sa from mid (ps ++ []) q sm = r.half.joins height mid [] q sm (omega arith) (refl, refl, refl) in
@@ -302,7 +302,8 @@ module _ (cs : List Lexeme) (h : ℕ) (sa s0 : Scope) (q0 : ℕ) (ps0 : List Tre
         record {
           found = (
             record {
-              kind = subst (λ (i : ℕ). Kind cs i q sa (node n from mid ps) sm) (omega arith) (of_kind cs height q sa (node n from mid ps) sm (whole_ended) (whole_path path'));
+              kind = subst (λ (i : ℕ). Kind cs i q sa (node n from mid ps) (leave (scoped q) sa sm)) (omega arith)
+                  (of_kind cs height q sa (node n from mid ps) (leave (scoped q) sa sm) sm refl (whole_ended) (whole_path path'));
               grows = subst (λ (x : Tree-F Tree). x.from < x.to) (sym rolled) (omega (arith, r.above0));
               within = subst (λ (x : Tree-F Tree). x.to ≤ length cs) (sym rolled) r.half.within;
               least = whole_least;
@@ -313,7 +314,7 @@ module _ (cs : List Lexeme) (h : ℕ) (sa s0 : Scope) (q0 : ℕ) (ps0 : List Tre
           );
           only = λ to rest z sv n' p ended' halts. (let o = over to rest z sv n' p ended' halts in
               let name_is : n ≡ n' = some_is (sym ended.0 ∙ ap name_of o.place ∙ ended'.0) in
-              ((λ i. node (name_is i) from (o.at i) (sym o.joined i)), o.place, o.state));
+              ((λ i. node (name_is i) from (o.at i) (sym o.joined i)), o.place, (λ i. leave (scoped (o.place i)) sa (o.state i))));
         }
       where
         rolled : out-Tree (node n from mid ps) ≡ record { rule = n.rule; choice = n.choice; from = from; to = mid; parts = ps }

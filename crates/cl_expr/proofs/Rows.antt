@@ -6,7 +6,7 @@ use Rattle.std.proofs.lemmas.Option.{slice_get-map}
 use Rattle.cl_tree.specs.declared.nonterminal.Nonterminal.{Nonterminal}
 use Rattle.cl_expr.specs.declared.table.Row.{Row}
 use Rattle.cl_expr.specs.declared.table.GoalRow.{GoalRow}
-use Rattle.cl_expr.specs.code.Table.{Place, Goal, places, goals, place, goal, nowhere, nothing, place_of, goal_of, rows, goal_rows, first_spans, all_edges, all_kinds, all_openers, all_suffixes, all_firsts, edges, name_of, bar_of, corner, turning, is_named, kinds, openers, suffixes, firsts, number}
+use Rattle.cl_expr.specs.code.Table.{Place, Goal, places, goals, place, goal, nowhere, nothing, place_of, goal_of, rows, goal_rows, first_spans, all_edges, all_kinds, all_openers, all_suffixes, all_firsts, edges, name_of, bar_of, scoped, corner, turning, is_named, kinds, openers, suffixes, firsts, shunned, number}
 use Rattle.std.proofs.Math.Dec.{eqb}
 use Rattle.std.proofs.lemmas.Bool.{eqb-true, and_parts}
 use Rattle.cl_expr.proofs.Checks.{every, every_at, some_is, none_not}
@@ -18,6 +18,10 @@ row_labels = refl
 row_bars : map (λ (r : Row). r.bar) rows ≡ map (λ (p : Place). p.bar) places
 unfolding rows places
 row_bars = refl
+
+row_scoped : map (λ (r : Row). r.scoped) rows ≡ map (λ (p : Place). p.scoped) places
+unfolding rows places
+row_scoped = refl
 
 row_corners : map (λ (r : Row). r.corner) rows ≡ map (λ (p : Place). p.corner) places
 unfolding rows places
@@ -87,6 +91,10 @@ module _ (q : ℕ) (r : Row) (e : slice_get rows q ≡ Some r) where
   unfolding bar_of
   bar_is = field_of (λ (r : Row). r.bar) (λ (p : Place). p.bar) row_bars q r e
 
+  pub scoped_is : r.scoped ≡ scoped q
+  unfolding scoped
+  scoped_is = field_of (λ (r : Row). r.scoped) (λ (p : Place). p.scoped) row_scoped q r e
+
   pub corner_is : r.corner ≡ corner q
   unfolding corner
   corner_is = field_of (λ (r : Row). r.corner) (λ (p : Place). p.corner) row_corners q r e
@@ -113,6 +121,10 @@ none_label q e = ap (λ (p : Place). p.label) (missing q e)
 pub none_bar : (q : ℕ) → slice_get rows q ≡ None → bar_of q ≡ None
 unfolding bar_of
 none_bar q e = ap (λ (p : Place). p.bar) (missing q e)
+
+pub none_scoped : (q : ℕ) → slice_get rows q ≡ None → scoped q ≡ false
+unfolding scoped
+none_scoped q e = ap (λ (p : Place). p.scoped) (missing q e)
 
 pub none_corner : (q : ℕ) → slice_get rows q ≡ None → corner q ≡ None
 unfolding corner
@@ -213,3 +225,17 @@ pub none_firsts : (g : Nonterminal) → slice_get goal_rows (number g) ≡ None 
 unfolding firsts goal
 none_firsts g e = ap (λ (p : Goal). p.firsts) (none_goal (λ (p : Goal). p.firsts) (slice_get goals (number g))
     (ap (option_map (λ (r : GoalRow). slice_range all_firsts r.firsts.from r.firsts.to)) (sym e) ∙ fields goal_rows goals (λ (r : GoalRow). slice_range all_firsts r.firsts.from r.firsts.to) (λ (p : Goal). p.firsts) goal_firsts (number g)))
+
+goal_shuns : map (λ (r : GoalRow). r.shuns) goal_rows ≡ map (λ (p : Goal). p.shuns) goals
+unfolding goal_rows goals first_spans
+goal_shuns = refl
+
+pub shunned_is : (g : Nonterminal) (r : GoalRow) → slice_get goal_rows (number g) ≡ Some r → r.shuns ≡ shunned g
+unfolding shunned goal
+shunned_is g r e = some_goal (λ (p : Goal). p.shuns) (slice_get goals (number g)) r.shuns
+    (ap (option_map (λ (r : GoalRow). r.shuns)) (sym e) ∙ fields goal_rows goals (λ (r : GoalRow). r.shuns) (λ (p : Goal). p.shuns) goal_shuns (number g))
+
+pub none_shunned : (g : Nonterminal) → slice_get goal_rows (number g) ≡ None → shunned g ≡ None
+unfolding shunned goal
+none_shunned g e = ap (λ (p : Goal). p.shuns) (none_goal (λ (p : Goal). p.shuns) (slice_get goals (number g))
+    (ap (option_map (λ (r : GoalRow). r.shuns)) (sym e) ∙ fields goal_rows goals (λ (r : GoalRow). r.shuns) (λ (p : Goal). p.shuns) goal_shuns (number g)))

@@ -1,6 +1,7 @@
 //! What stands in the tables of a place or a nonterminal.
 
 ghost use Rattle.std.specs.Prelude.{◌≡◌, slice_get};
+ghost use Rattle.cl_tree.specs.Grammar as g;
 ghost use Rattle.cl_expr.specs.code.Table as t;
 
 use crate::edge_rows::all_edges;
@@ -49,6 +50,16 @@ pub fn bar(place: u16) -> Option<Terminal>
     match row_at(place) {
         Some(row) => row.bar,
         None => None,
+    }
+}
+
+/// Whether the node that may end at a place is a block.
+pub fn is_scoped(place: u16) -> bool
+    ensures { result ≡ t.scoped place }
+{
+    match row_at(place) {
+        Some(row) => row.scoped,
+        None => false,
     }
 }
 
@@ -130,5 +141,15 @@ pub fn firsts(goal: Nonterminal) -> &'static [Class]
     match goal_at(goal) {
         Some(row) => &all_firsts()[row.firsts.from as usize..row.firsts.to as usize],
         None => &[],
+    }
+}
+
+/// The tokens with which no tree of a nonterminal begins.
+pub fn shuns(goal: Nonterminal) -> Option<Terminal>
+    ensures { result ≡ g.shuns goal }
+{
+    match goal_at(goal) {
+        Some(row) => row.shuns,
+        None => None,
     }
 }

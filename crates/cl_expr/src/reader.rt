@@ -8,9 +8,9 @@ ghost use Rattle.cl_tree.specs.declared.grammar.Symbol.TheVariants.{Token};
 ghost use Rattle.cl_expr.specs.code.Table as t;
 ghost use Rattle.cl_expr.specs.code.Parses.{Parses, Nests, Part, Half, Builds, Opens, Steps, Climbs, GoesOn, Sound, Begins, Enters};
 
-use crate::places::{bar, corner, kinds, name_of, turn};
+use crate::places::{bar, corner, is_scoped, kinds, name_of, turn};
 use crate::scan::{
-    going, has_place, is_body, is_brace, look, opening, partner_at, same_class, taken,
+    going, has_place, is_body, is_brace, is_shunned, look, opening, partner_at, same_class, taken,
 };
 use crate::table::Edge;
 use cl_base::{List, Mem};
@@ -66,6 +66,18 @@ fn one(alloc: Global, a: Tree) -> Mem<List<Tree>>
     let mut parts = List::new(alloc);
     parts.push(a)?;
     Ok(parts)
+}
+
+/// What is declared after a node that ends at a place: a block's names are gone.
+fn leave(alloc: Global, place: u16, before: &Scope, inside: Scope) -> Mem<Scope>
+    ensures { IfOk result (λ after. after ≡ n.leave (t.scoped place) before.now inside) }
+{
+    let scoped = is_scoped(place);
+    if scoped {
+        before.share(alloc)
+    } else {
+        Ok(inside)
+    }
 }
 
 /// The productions, over a parser of nonterminals.
@@ -263,6 +275,7 @@ impl<F: Fn(Global, &[Lexeme], &Scope, Nonterminal, u32, u32) -> Mem<Option<Found
         if barred {
             return Ok(None);
         }
+        let after = leave(self.alloc, place, before, scope)?;
         Ok(Some(Found {
             tree: Tree {
                 rule: label.rule,
@@ -272,7 +285,7 @@ impl<F: Fn(Global, &[Lexeme], &Scope, Nonterminal, u32, u32) -> Mem<Option<Found
                 parts,
             },
             place,
-            scope,
+            scope: after,
             height: height + 1,
         }))
     }
@@ -345,6 +358,10 @@ pub fn tree_at(
     ensures { IfOk result (Parses tokens.now depth scope.now goal at) }
 {
     if depth == 0 {
+        return Ok(None);
+    }
+    let shunned = is_shunned(tokens, scope, goal, at);
+    if shunned {
         return Ok(None);
     }
     let grammar = Grammar {

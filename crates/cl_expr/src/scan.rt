@@ -10,7 +10,7 @@ ghost use Rattle.cl_tree.specs.declared.class.Class.TheVariants as cl;
 ghost use Rattle.cl_expr.specs.code.Table as t;
 ghost use Rattle.cl_expr.specs.code.Parses.{Begins, BeginsSymbol, Enters, GoesOn};
 
-use crate::places::{corner, edges, firsts, kinds, openers, suffixes};
+use crate::places::{corner, edges, firsts, kinds, openers, shuns, suffixes};
 use crate::table::Edge;
 use cl_tree::{Class, Lexeme, Nonterminal, Scope, Symbol, Terminal, class_at};
 
@@ -71,6 +71,11 @@ pub fn taken(terminal: Terminal, class: Class) -> bool
         ),
         Terminal::TypeOpen => has_class(&[Class::TypeParen, Class::LiteralParen], class),
         Terminal::Typed => has_class(&[Class::TypedefName, Class::TypedefColon], class),
+        Terminal::Label => has_class(&[Class::IdentColon, Class::TypedefColon], class),
+        Terminal::Marked => has_class(
+            &[Class::IdentColon, Class::TypedefName, Class::TypedefColon],
+            class,
+        ),
         Terminal::Body => has_class(&[Class::LeftBrace], class),
     }
 }
@@ -99,6 +104,20 @@ pub fn is_brace(tokens: &[Lexeme], scope: &Scope, at: u32) -> bool
 {
     match class_at(tokens, scope, at) {
         Some(class) => same_class(class, Class::RightBrace),
+        None => false,
+    }
+}
+
+/// Whether no tree of a nonterminal begins with the token there.
+pub fn is_shunned(tokens: &[Lexeme], scope: &Scope, goal: Nonterminal, at: u32) -> bool
+    ensures yes { result ≡ true → d.Opened tokens.now goal scope.now at → ⊥ }
+    ensures no { result ≡ false → d.Opened tokens.now goal scope.now at }
+{
+    let Some(terminal) = shuns(goal) else {
+        return false;
+    };
+    match class_at(tokens, scope, at) {
+        Some(class) => taken(terminal, class),
         None => false,
     }
 }

@@ -31,26 +31,28 @@ pub struct Ways {
     pub other: u16,
 }
 
-/// A place: its edges as a range of all of them, the node that may end there and what may not follow it then, the
-/// nonterminal with which its production begins if that is read before, the places after a part whose kind decides, and
-/// whether the node is a declarator that names something.
+/// A place: its edges as a range of all of them, the node that may end there, what may not follow it then and whether it is a
+/// block, the nonterminal with which its production begins if that is read before, the places after a part whose kind
+/// decides, and whether the node is a declarator that names something.
 #[derive(Clone, Copy)]
 pub struct Row {
     pub first: u16,
     pub last: u16,
     pub label: Option<Label>,
     pub bar: Option<Terminal>,
+    pub scoped: bool,
     pub corner: Option<Head>,
     pub turning: Option<Ways>,
     pub named: bool,
 }
 
-/// A nonterminal: the places where its trees end, those at its left end and those that go on from there, and the classes
-/// of tokens that begin it, as ranges.
+/// A nonterminal: the places where its trees end, those at its left end and those that go on from there, the classes of
+/// tokens that begin it, as ranges, and those that may not.
 #[derive(Clone, Copy)]
 pub struct GoalRow {
     pub kinds: Span,
     pub openers: Span,
     pub suffixes: Span,
     pub firsts: Span,
+    pub shuns: Option<Terminal>,
 }

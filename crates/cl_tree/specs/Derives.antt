@@ -17,13 +17,13 @@ use Rattle.cl_tree.specs.declared.grammar.Unit.{Unit as UnitRow}
 use Rattle.cl_tree.specs.declared.tree.Tree.{Tree, out-Tree, roll-Tree}
 use Rattle.cl_tree.specs.declared.lexeme.Lexeme.{Lexeme}
 use Rattle.cl_tree.specs.declared.scope.Scope.{Scope}
-use Rattle.cl_tree.specs.Scopes.{empty, class_at, pass}
+use Rattle.cl_tree.specs.Scopes.{empty, class_at, pass, leave}
 use Rattle.cl_tree.specs.declared.set.NameSet.{NameSet}
 use Rattle.cl_base.specs.declared.token.PpToken.{PpToken}
 use Rattle.cl_tree.specs.Brackets.{brackets}
 use Rattle.cl_tree.specs.Lexemes.{lexemes}
 use Rattle.cl_tree.specs.Sets.{has}
-use Rattle.cl_tree.specs.Grammar.{Production, productions, units, takes}
+use Rattle.cl_tree.specs.Grammar.{Production, productions, units, takes, shuns}
 
 -- x stands somewhere in the list
 abbrev pub Has : {X : Type 0} → List X → X → Type 0
@@ -108,10 +108,14 @@ members_of ps (a ∷ rest) = member_of a (slice_get ps a.part) ++ members_of ps 
 abbrev pub nexts : Production → ℕ → List Next
 nexts r d = nexts_of (drop d r.parts) d ++ cond (left_out (drop d r.parts)) (members_of r.parts r.again) []
 
--- the classes of tokens that may not follow a production
+-- the classes of tokens that may not follow a production, or begin a nonterminal
 abbrev pub barred : Option Terminal → List Class
 barred None = []
 barred (Some k) = takes k
+
+-- the token there is none with which the nonterminal may not begin
+abbrev pub Opened : List Lexeme → Nonterminal → Scope → ℕ → Type 0
+Opened ts g s at = (c : Class) → class_at ts s at ≡ Some c → Has (barred (shuns g)) c → ⊥
 
 module _ (D : Nonterminal → Scope → Tree → Scope → Type 0) (h : ℕ) (ts : List Lexeme) where
   -- the tree is what a symbol stands for, from a token on, of a height of at most h, where s is declared before it and w after it
@@ -130,11 +134,11 @@ module _ (D : Nonterminal → Scope → Tree → Scope → Type 0) (h : ℕ) (ts
   Follows r d s at to [] w = (left_out (drop d r.parts) ≡ true) × (at ≡ to) × (s ≡ w)
   Follows r d s at to (p ∷ ps) w = (x : Next) × (v : Scope) × Has (nexts r d) x × ReadsAfter x.before x.symbol s at p v × Follows r x.behind v (end p) to ps w
 
-  -- the tree is a node of a production, and no token that it bars follows
+  -- the tree is a node of a production, and no token that it bars follows; v is declared at its end, and w after it
   abbrev pub IsNode : Production → Scope → Tree → Scope → Type 0
   IsNode r s t w =
-      ((out-Tree t).rule ≡ r.rule) × ((out-Tree t).choice ≡ r.choice) × Follows r 0 s (start t) (end t) (parts t) w
-      × ((c : Class) → class_at ts w (end t) ≡ Some c → Has (barred r.bar) c → ⊥)
+      ((out-Tree t).rule ≡ r.rule) × ((out-Tree t).choice ≡ r.choice) × (v : Scope) × Follows r 0 s (start t) (end t) (parts t) v
+      × ((c : Class) → class_at ts v (end t) ≡ Some c → Has (barred r.bar) c → ⊥) × (w ≡ leave r.scoped s v)
 
 -- a tree of one nonterminal is one of another: by productions whose right side is one nonterminal
 pub data StandsFor : Nonterminal → Nonterminal → Type 0 where
@@ -144,7 +148,7 @@ pub data StandsFor : Nonterminal → Nonterminal → Type 0 where
 -- a tree of a nonterminal, of a height of at most h, where each node counts; s is declared before it, w after it
 unfoldable pub Derived : List Lexeme → ℕ → Nonterminal → Scope → Tree → Scope → Type 0
 Derived ts zero g s t w = ⊥
-Derived ts (suc h) g s t w = (r : Production) × Has productions r × StandsFor g r.of × IsNode (Derived ts h) h ts r s t w
+Derived ts (suc h) g s t w = (r : Production) × Has productions r × StandsFor g r.of × Opened ts g s (start t) × IsNode (Derived ts h) h ts r s t w
 
 -- the tree is one of the nonterminal on all of the tokens from one on, of a height of at most 512; s is declared before it, w after it
 pub record SpansFrom (g : Nonterminal) (ts : List Lexeme) (s : Scope) (at : ℕ) (t : Tree) (w : Scope) : Type 0 where

@@ -1,6 +1,6 @@
--- The grammar of expressions, declarations and function definitions: N1570 A.2.1, A.2.2 and A.2.4, in the standard's order and with its section numbers.
+-- The grammar of expressions, declarations, statements and function definitions: N1570 A.2, in the standard's order and with its section numbers.
 -- Written by tools/grammar/emit_tree.py from tools/grammar/annex.py.
-use Rattle.std.specs.Prelude.{ℕ, List, [], ◌∷◌, ◌++◌, Option, Some, None, cond, slice_range}
+use Rattle.std.specs.Prelude.{ℕ, List, [], ◌∷◌, ◌++◌, Option, Some, None, Bool, true, false, slice_range}
 use Rattle.cl_tree.specs.declared.class.Class.{Class}
 use Rattle.cl_tree.specs.declared.class.Class.TheVariants as cl
 use Rattle.cl_tree.specs.declared.rule.Rule.{Rule}
@@ -19,7 +19,8 @@ use Rattle.cl_tree.specs.declared.grammar.Again.{Again}
 use Rattle.cl_tree.specs.declared.grammar.Unit.{Unit as UnitRow}
 use Rattle.cl_tree.specs.declared.grammar.Production.{Production as ProductionRow}
 
--- a production: its nonterminal, the rule and number of its node, its right side, how a list goes on, and which tokens may not follow
+-- a production: its nonterminal, the rule and number of its node, its right side, how a list goes on, which tokens may not follow, and whether what
+-- is declared in the node is gone after it
 pub record Production : Type 0 where
   pub of : Nonterminal
   pub rule : Rule
@@ -27,6 +28,7 @@ pub record Production : Type 0 where
   pub parts : List Part
   pub again : List Again
   pub bar : Option Terminal
+  pub scoped : Bool
 
 -- the classes of tokens that a terminal stands for
 abbrev pub takes : Terminal → List Class
@@ -35,6 +37,8 @@ takes te.Name = cl.Ident ∷ cl.IdentColon ∷ cl.TypedefName ∷ cl.TypedefColo
 takes te.Open = cl.LeftParen ∷ cl.TypeParen ∷ cl.LiteralParen ∷ []
 takes te.TypeOpen = cl.TypeParen ∷ cl.LiteralParen ∷ []
 takes te.Typed = cl.TypedefName ∷ cl.TypedefColon ∷ []
+takes te.Label = cl.IdentColon ∷ cl.TypedefColon ∷ []
+takes te.Marked = cl.IdentColon ∷ cl.TypedefName ∷ cl.TypedefColon ∷ []
 takes te.Body = cl.LeftBrace ∷ []
 
 abbrev pub is : Class → Terminal
@@ -60,18 +64,26 @@ abbrev pub many : Symbol → Part
 many x = Many x
 
 abbrev pub production : Nonterminal → Rule → ℕ → List Part → Production
-production g r c ps = record { of = g; rule = r; choice = c; parts = ps; again = []; bar = None }
+production g r c ps = record { of = g; rule = r; choice = c; parts = ps; again = []; bar = None; scoped = false }
 
 -- a list whose members are separated
 abbrev pub separated : Class → Act → ℕ → Again
 separated k a i = record { separator = record { class = k; act = a }; part = i }
 
 abbrev pub listed : Nonterminal → Rule → List Part → List Again → Production
-listed g r ps more = record { of = g; rule = r; choice = 0; parts = ps; again = more; bar = None }
+listed g r ps more = record { of = g; rule = r; choice = 0; parts = ps; again = more; bar = None; scoped = false }
 
 -- a production after which no typedef name may stand
 abbrev pub untyped : Nonterminal → Rule → ℕ → List Part → Production
-untyped g r c ps = record { of = g; rule = r; choice = c; parts = ps; again = []; bar = Some te.Typed }
+untyped g r c ps = record { of = g; rule = r; choice = c; parts = ps; again = []; bar = Some te.Typed; scoped = false }
+
+-- a statement that is a block (6.8.4p3, 6.8.5p5)
+abbrev pub scoped : Nonterminal → Rule → ℕ → List Part → Production
+scoped g r c ps = record { of = g; rule = r; choice = c; parts = ps; again = []; bar = None; scoped = true }
+
+-- a statement that is a block, after which no `else` may stand: an `else` goes with the nearest `if` (6.8.4.1p3)
+abbrev pub without_else : Nonterminal → Rule → ℕ → List Part → Production
+without_else g r c ps = record { of = g; rule = r; choice = c; parts = ps; again = []; bar = Some (te.Is cl.Else); scoped = true }
 
 abbrev pub unit : Nonterminal → Nonterminal → UnitRow
 unit g u = record { of = g; by = u }
@@ -301,6 +313,34 @@ productions =
     production nt.Designator ru.Designator 1 (one (t (is cl.Dot)) ∷ one (t te.Name) ∷ []) ∷
     -- static_assert-declaration (6.7.10)
     production nt.StaticAssertDeclaration ru.StaticAssertDeclaration 0 (one (t (is cl.StaticAssert)) ∷ one (t te.Open) ∷ one (n nt.ConstantExpression) ∷ one (t (is cl.Comma)) ∷ one (t (is cl.String)) ∷ many (t (is cl.String)) ∷ one (t (is cl.RightParen)) ∷ one (t (is cl.Semicolon)) ∷ []) ∷
+    -- labeled-statement (6.8.1)
+    production nt.LabeledStatement ru.LabeledStatement 0 (one (t te.Label) ∷ one (t (is cl.Colon)) ∷ one (n nt.Statement) ∷ []) ∷
+    production nt.LabeledStatement ru.LabeledStatement 1 (one (t (is cl.Case)) ∷ one (n nt.ConstantExpression) ∷ one (t (is cl.Colon)) ∷ one (n nt.Statement) ∷ []) ∷
+    production nt.LabeledStatement ru.LabeledStatement 2 (one (t (is cl.Default)) ∷ one (t (is cl.Colon)) ∷ one (n nt.Statement) ∷ []) ∷
+    -- compound-statement (6.8.2)
+    production nt.CompoundStatement ru.CompoundStatement 0 (one (act (is cl.LeftBrace) ac.Open) ∷ opt (n nt.BlockItemList) ∷ one (act (is cl.RightBrace) ac.Close) ∷ []) ∷
+    -- block-item-list (6.8.2)
+    production nt.BlockItemList ru.BlockItemList 0 (one (n nt.BlockItem) ∷ many (n nt.BlockItem) ∷ []) ∷
+    -- expression-statement (6.8.3)
+    production nt.ExpressionStatement ru.ExpressionStatement 0 (opt (n nt.UnlabelledExpression) ∷ one (t (is cl.Semicolon)) ∷ []) ∷
+    -- selection-statement (6.8.4)
+    without_else nt.SelectionStatement ru.SelectionStatement 0 (one (t (is cl.If)) ∷ one (t te.Open) ∷ one (n nt.Expression) ∷ one (act (is cl.RightParen) ac.Open) ∷ one (n nt.Statement) ∷ []) ∷
+    scoped nt.SelectionStatement ru.SelectionStatement 1 (one (t (is cl.If)) ∷ one (t te.Open) ∷ one (n nt.Expression) ∷ one (act (is cl.RightParen) ac.Open) ∷ one (n nt.Statement) ∷ one (act (is cl.Else) ac.Close) ∷ one (n nt.Statement) ∷ []) ∷
+    scoped nt.SelectionStatement ru.SelectionStatement 2 (one (t (is cl.Switch)) ∷ one (t te.Open) ∷ one (n nt.Expression) ∷ one (t (is cl.RightParen)) ∷ one (n nt.Statement) ∷ []) ∷
+    -- iteration-statement (6.8.5)
+    scoped nt.IterationStatement ru.IterationStatement 0 (one (t (is cl.While)) ∷ one (t te.Open) ∷ one (n nt.Expression) ∷ one (t (is cl.RightParen)) ∷ one (n nt.Statement) ∷ []) ∷
+    scoped nt.IterationStatement ru.IterationStatement 1 (one (act (is cl.Do) ac.Open) ∷ one (n nt.Statement) ∷ one (act (is cl.While) ac.Close) ∷ one (t te.Open) ∷ one (n nt.Expression) ∷ one (t (is cl.RightParen)) ∷ one (t (is cl.Semicolon)) ∷ []) ∷
+    scoped nt.IterationStatement ru.IterationStatement 2 (one (t (is cl.For)) ∷ one (t te.Open) ∷ opt (n nt.PlainExpression) ∷ one (t (is cl.Semicolon)) ∷ opt (n nt.Expression) ∷ one (t (is cl.Semicolon)) ∷ opt (n nt.Expression) ∷ one (t (is cl.RightParen)) ∷ one (n nt.Statement) ∷ []) ∷
+    scoped nt.IterationStatement ru.IterationStatement 3 (one (t (is cl.For)) ∷ one (t te.Open) ∷ one (n nt.Declaration) ∷ opt (n nt.Expression) ∷ one (t (is cl.Semicolon)) ∷ opt (n nt.Expression) ∷ one (t (is cl.RightParen)) ∷ one (n nt.Statement) ∷ []) ∷
+    -- jump-statement (6.8.6)
+    production nt.JumpStatement ru.JumpStatement 0 (one (t (is cl.Goto)) ∷ one (t te.Name) ∷ one (t (is cl.Semicolon)) ∷ []) ∷
+    production nt.JumpStatement ru.JumpStatement 1 (one (t (is cl.Continue)) ∷ one (t (is cl.Semicolon)) ∷ []) ∷
+    production nt.JumpStatement ru.JumpStatement 2 (one (t (is cl.Break)) ∷ one (t (is cl.Semicolon)) ∷ []) ∷
+    production nt.JumpStatement ru.JumpStatement 3 (one (t (is cl.Return)) ∷ opt (n nt.Expression) ∷ one (t (is cl.Semicolon)) ∷ []) ∷
+    -- An expression-statement of a block (6.8.2)
+    production nt.BlockExpressionStatement ru.ExpressionStatement 0 (opt (n nt.PlainExpression) ∷ one (t (is cl.Semicolon)) ∷ []) ∷
+    -- A declaration of a block: it begins with no label (6.8.2)
+    production nt.BlockDeclaration ru.Declaration 0 (one (n nt.BlockSpecifiers) ∷ opt (n nt.InitDeclaratorList) ∷ one (act (is cl.Semicolon) ac.Finish) ∷ []) ∷
     -- function-definition (6.9.1)
     production nt.FunctionDefinition ru.FunctionDefinition 0 (one (n nt.DeclarationSpecifiers) ∷ one (n nt.Declarator) ∷ one (act te.Body ac.Finish) ∷ []) ∷
     []
@@ -339,6 +379,14 @@ units =
     unit nt.AbstractDeclarator nt.Pointer ∷
     unit nt.AbstractDeclarator nt.DirectAbstractDeclarator ∷
     unit nt.Initializer nt.AssignmentExpression ∷
+    unit nt.Statement nt.LabeledStatement ∷
+    unit nt.Statement nt.CompoundStatement ∷
+    unit nt.Statement nt.ExpressionStatement ∷
+    unit nt.Statement nt.SelectionStatement ∷
+    unit nt.Statement nt.IterationStatement ∷
+    unit nt.Statement nt.JumpStatement ∷
+    unit nt.BlockItem nt.BlockDeclaration ∷
+    unit nt.BlockItem nt.BlockStatement ∷
     unit nt.OtherSpecifier nt.StorageClassSpecifier ∷
     unit nt.OtherSpecifier nt.TypeQualifier ∷
     unit nt.OtherSpecifier nt.FunctionSpecifier ∷
@@ -355,7 +403,24 @@ units =
     unit nt.AnyDeclarator nt.AbstractDeclarator ∷
     unit nt.DirectAnyDeclarator nt.DirectParameterDeclarator ∷
     unit nt.DirectAnyDeclarator nt.DirectAbstractDeclarator ∷
+    unit nt.UnlabelledExpression nt.Expression ∷
+    unit nt.PlainExpression nt.Expression ∷
+    unit nt.BlockStatement nt.LabeledStatement ∷
+    unit nt.BlockStatement nt.CompoundStatement ∷
+    unit nt.BlockStatement nt.BlockExpressionStatement ∷
+    unit nt.BlockStatement nt.SelectionStatement ∷
+    unit nt.BlockStatement nt.IterationStatement ∷
+    unit nt.BlockStatement nt.JumpStatement ∷
+    unit nt.BlockDeclaration nt.StaticAssertDeclaration ∷
+    unit nt.BlockSpecifiers nt.DeclarationSpecifiers ∷
     []
+
+-- the tokens with which no tree of a nonterminal begins: where a label or a declaration may stand, an identifier is that (6.8.1, 6.8.2)
+unfoldable pub shuns : Nonterminal → Option Terminal
+shuns nt.UnlabelledExpression = Some te.Label
+shuns nt.PlainExpression = Some te.Marked
+shuns nt.BlockSpecifiers = Some te.Label
+shuns _ = None
 
 abbrev pub parts_of : List Production → List Part
 parts_of [] = []
@@ -373,4 +438,4 @@ unfoldable pub all_agains : List Again
 all_agains = agains_of productions
 
 abbrev pub plain : ProductionRow → Production
-plain p = record { of = p.of; rule = p.rule; choice = p.choice; parts = slice_range all_parts p.parts.from p.parts.to; again = slice_range all_agains p.again.from p.again.to; bar = cond p.typed None (Some te.Typed) }
+plain p = record { of = p.of; rule = p.rule; choice = p.choice; parts = slice_range all_parts p.parts.from p.parts.to; again = slice_range all_agains p.again.from p.again.to; bar = p.bar; scoped = p.scoped }

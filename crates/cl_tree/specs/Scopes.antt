@@ -107,3 +107,7 @@ passed ts s ac.Shut at = shut (declaring ts s s.typing)
 -- what is declared after the token at a number, which does this to the names
 unfoldable pub pass : List Lexeme → Scope → Act → ℕ → Scope
 pass ts s a at = passed ts s a at
+
+-- what is declared after a node, by what was so before it and is so at its end: the names of a block are gone after it (6.2.1p4)
+abbrev pub leave : Bool → Scope → Scope → Scope
+leave scoped before inside = cond scoped before inside

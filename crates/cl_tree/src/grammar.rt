@@ -1,4 +1,4 @@
-//! The grammar of expressions, declarations and function definitions: N1570 A.2.1, A.2.2 and A.2.4, in the standard's order.
+//! The grammar of expressions, declarations, statements and function definitions: N1570 A.2, in the standard's order.
 
 use crate::class::Class;
 use crate::nonterminal::Nonterminal;
@@ -17,6 +17,10 @@ pub enum Terminal {
     TypeOpen,
     /// A typedef name.
     Typed,
+    /// An identifier directly before `:`.
+    Label,
+    /// An identifier that is a typedef name, or stands directly before `:`.
+    Marked,
     /// `{` with all up to its partner: a body, which is read as one part.
     Body,
 }
@@ -36,9 +40,9 @@ pub enum Act {
     Finish,
     /// The name that is being declared is a member and hides nothing.
     Forget,
-    /// A list of parameters, members or enumerators begins.
+    /// A list of parameters, members or enumerators begins, or a block.
     Open,
-    /// A list of parameters ends, and its names with it.
+    /// A list of parameters or a block ends, and its names with it.
     Close,
     /// A list of members or enumerators ends; its names stay.
     Shut,
@@ -86,7 +90,7 @@ pub struct Span {
 }
 
 /// A production that makes a node: its nonterminal, the node's rule and the number of the alternative, from 0, its right side
-/// in `parts()`, how a list goes on in `agains()`, and whether a typedef name may follow.
+/// in `parts()`, how a list goes on in `agains()`, which tokens may not follow, and whether what is declared in it is gone after it.
 #[derive(Clone, Copy)]
 pub struct Production {
     pub of: Nonterminal,
@@ -94,7 +98,8 @@ pub struct Production {
     pub choice: u8,
     pub parts: Span,
     pub again: Span,
-    pub typed: bool,
+    pub bar: Option<Terminal>,
+    pub scoped: bool,
 }
 
 /// A production whose right side is one nonterminal: its tree stands for the other one.

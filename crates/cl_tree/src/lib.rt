@@ -1,4 +1,4 @@
-//! Trees of C, the grammar of expressions and declarations as one table, and what it is for a tree to derive.
+//! Trees of C, its grammar as one table, and what it is for a tree to derive.
 #![tactic(auto)]
 
 mod bracket;

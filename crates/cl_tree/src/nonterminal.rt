@@ -1,4 +1,4 @@
-/// A nonterminal of the grammar: those of N1570 A.2.1, A.2.2 and A.2.4, and some that tell apart where one of them stands.
+/// A nonterminal of the grammar: those of N1570 A.2, and some that tell apart where one of them stands.
 #[derive(Clone, Copy, Debug, PartialEq, Eq)]
 pub enum Nonterminal {
     /// primary-expression (6.5.1).
@@ -125,6 +125,24 @@ pub enum Nonterminal {
     Designator,
     /// static_assert-declaration (6.7.10).
     StaticAssertDeclaration,
+    /// statement (6.8).
+    Statement,
+    /// labeled-statement (6.8.1).
+    LabeledStatement,
+    /// compound-statement (6.8.2).
+    CompoundStatement,
+    /// block-item-list (6.8.2).
+    BlockItemList,
+    /// block-item (6.8.2).
+    BlockItem,
+    /// expression-statement (6.8.3).
+    ExpressionStatement,
+    /// selection-statement (6.8.4).
+    SelectionStatement,
+    /// iteration-statement (6.8.5).
+    IterationStatement,
+    /// jump-statement (6.8.6).
+    JumpStatement,
     /// function-definition (6.9.1).
     FunctionDefinition,
     /// A specifier of a declaration that is no type specifier (6.7).
@@ -143,4 +161,16 @@ pub enum Nonterminal {
     AnyDeclarator,
     /// A direct-declarator of a parameter, or an abstract one (6.7.6).
     DirectAnyDeclarator,
+    /// An expression that begins with no label: that of an expression statement (6.8.3).
+    UnlabelledExpression,
+    /// An expression that begins with no label and no typedef name: where a declaration may stand too (6.8.3).
+    PlainExpression,
+    /// A statement of a block: it begins with no typedef name (6.8.2).
+    BlockStatement,
+    /// An expression-statement of a block (6.8.2).
+    BlockExpressionStatement,
+    /// A declaration of a block: it begins with no label (6.8.2).
+    BlockDeclaration,
+    /// The specifiers of a declaration of a block (6.8.2).
+    BlockSpecifiers,
 }

@@ -3,13 +3,13 @@
 ghost use Rattle.std.specs.Prelude.{◌≡◌, map};
 ghost use Rattle.cl_tree.specs.Grammar as g;
 
-use crate::grammar::{Production, Span, Unit};
+use crate::class::Class;
+use crate::grammar::{Production, Span, Terminal, Unit};
 use crate::nonterminal::Nonterminal;
 use crate::rule::Rule;
 
-// a production, with its right side from one part up to another
-macro_rules! made {
-    ($of:ident, $rule:ident, $choice:expr, $from:expr, $to:expr) => {
+macro_rules! row {
+    ($of:ident, $rule:ident, $choice:expr, $from:expr, $to:expr, $bar:expr, $scoped:expr) => {
         Production {
             of: Nonterminal::$of,
             rule: Rule::$rule,
@@ -19,25 +19,37 @@ macro_rules! made {
                 to: $to,
             },
             again: Span { from: 0, to: 0 },
-            typed: true,
+            bar: $bar,
+            scoped: $scoped,
         }
+    };
+}
+
+// a production, with its right side from one part up to another
+macro_rules! made {
+    ($of:ident, $rule:ident, $choice:expr, $from:expr, $to:expr) => {
+        row!($of, $rule, $choice, $from, $to, None, false)
     };
 }
 
 // a production after which no typedef name may stand
 macro_rules! untyped {
     ($of:ident, $rule:ident, $choice:expr, $from:expr, $to:expr) => {
-        Production {
-            of: Nonterminal::$of,
-            rule: Rule::$rule,
-            choice: $choice,
-            parts: Span {
-                from: $from,
-                to: $to,
-            },
-            again: Span { from: 0, to: 0 },
-            typed: false,
-        }
+        row!($of, $rule, $choice, $from, $to, Some(Terminal::Typed), false)
+    };
+}
+
+// a statement that is a block
+macro_rules! scoped {
+    ($of:ident, $rule:ident, $choice:expr, $from:expr, $to:expr) => {
+        row!($of, $rule, $choice, $from, $to, None, true)
+    };
+}
+
+// a statement that is a block, after which no `else` may stand
+macro_rules! without_else {
+    ($of:ident, $rule:ident, $choice:expr, $from:expr, $to:expr) => {
+        row!($of, $rule, $choice, $from, $to, Some(Terminal::Is(Class::Else)), true)
     };
 }
 
@@ -56,7 +68,8 @@ macro_rules! list {
                 from: $again,
                 to: $end,
             },
-            typed: true,
+            bar: None,
+            scoped: false,
         }
     };
 }
@@ -70,7 +83,7 @@ macro_rules! unit {
     };
 }
 
-static PRODUCTIONS: [Production; 160] = [
+static PRODUCTIONS: [Production; 179] = [
     made!(PrimaryExpression, PrimaryExpression, 0, 0, 1),
     made!(PrimaryExpression, PrimaryExpression, 1, 1, 2),
     made!(PrimaryExpression, PrimaryExpression, 2, 2, 4),
@@ -332,10 +345,29 @@ static PRODUCTIONS: [Production; 160] = [
         407,
         415
     ),
-    made!(FunctionDefinition, FunctionDefinition, 0, 415, 418),
+    made!(LabeledStatement, LabeledStatement, 0, 415, 418),
+    made!(LabeledStatement, LabeledStatement, 1, 418, 422),
+    made!(LabeledStatement, LabeledStatement, 2, 422, 425),
+    made!(CompoundStatement, CompoundStatement, 0, 425, 428),
+    made!(BlockItemList, BlockItemList, 0, 428, 430),
+    made!(ExpressionStatement, ExpressionStatement, 0, 430, 432),
+    without_else!(SelectionStatement, SelectionStatement, 0, 432, 437),
+    scoped!(SelectionStatement, SelectionStatement, 1, 437, 444),
+    scoped!(SelectionStatement, SelectionStatement, 2, 444, 449),
+    scoped!(IterationStatement, IterationStatement, 0, 449, 454),
+    scoped!(IterationStatement, IterationStatement, 1, 454, 461),
+    scoped!(IterationStatement, IterationStatement, 2, 461, 470),
+    scoped!(IterationStatement, IterationStatement, 3, 470, 478),
+    made!(JumpStatement, JumpStatement, 0, 478, 481),
+    made!(JumpStatement, JumpStatement, 1, 481, 483),
+    made!(JumpStatement, JumpStatement, 2, 483, 485),
+    made!(JumpStatement, JumpStatement, 3, 485, 488),
+    made!(BlockExpressionStatement, ExpressionStatement, 0, 488, 490),
+    made!(BlockDeclaration, Declaration, 0, 490, 493),
+    made!(FunctionDefinition, FunctionDefinition, 0, 493, 496),
 ];
 
-static UNITS: [Unit; 47] = [
+static UNITS: [Unit; 65] = [
     unit!(PrimaryExpression, GenericSelection),
     unit!(PostfixExpression, PrimaryExpression),
     unit!(UnaryExpression, PostfixExpression),
@@ -367,6 +399,14 @@ static UNITS: [Unit; 47] = [
     unit!(AbstractDeclarator, Pointer),
     unit!(AbstractDeclarator, DirectAbstractDeclarator),
     unit!(Initializer, AssignmentExpression),
+    unit!(Statement, LabeledStatement),
+    unit!(Statement, CompoundStatement),
+    unit!(Statement, ExpressionStatement),
+    unit!(Statement, SelectionStatement),
+    unit!(Statement, IterationStatement),
+    unit!(Statement, JumpStatement),
+    unit!(BlockItem, BlockDeclaration),
+    unit!(BlockItem, BlockStatement),
     unit!(OtherSpecifier, StorageClassSpecifier),
     unit!(OtherSpecifier, TypeQualifier),
     unit!(OtherSpecifier, FunctionSpecifier),
@@ -383,6 +423,16 @@ static UNITS: [Unit; 47] = [
     unit!(AnyDeclarator, AbstractDeclarator),
     unit!(DirectAnyDeclarator, DirectParameterDeclarator),
     unit!(DirectAnyDeclarator, DirectAbstractDeclarator),
+    unit!(UnlabelledExpression, Expression),
+    unit!(PlainExpression, Expression),
+    unit!(BlockStatement, LabeledStatement),
+    unit!(BlockStatement, CompoundStatement),
+    unit!(BlockStatement, BlockExpressionStatement),
+    unit!(BlockStatement, SelectionStatement),
+    unit!(BlockStatement, IterationStatement),
+    unit!(BlockStatement, JumpStatement),
+    unit!(BlockDeclaration, StaticAssertDeclaration),
+    unit!(BlockSpecifiers, DeclarationSpecifiers),
 ];
 
 /// The productions that make a node, in the order of N1570 A.2.

@@ -16,6 +16,10 @@ enum Section {
     Declaration,
     /// Type names (6.7.7).
     TypeName,
+    /// Statements (6.8).
+    Statement,
+    /// Items of a block (6.8.2).
+    BlockItem,
     /// Files, with whether they end whole.
     EndsWhole,
     /// Files, with their items.
@@ -61,6 +65,8 @@ impl Table {
             Section::Expression => trees::expression(alloc, text.as_bytes(), &self.typedefs)?,
             Section::Declaration => trees::declaration(alloc, text.as_bytes(), &self.typedefs)?,
             Section::TypeName => trees::type_name(alloc, text.as_bytes(), &self.typedefs)?,
+            Section::Statement => trees::statement(alloc, text.as_bytes(), &self.typedefs)?,
+            Section::BlockItem => trees::block_item(alloc, text.as_bytes(), &self.typedefs)?,
             Section::EndsWhole => files::whole(alloc, text.as_bytes())?,
             Section::Items => files::items_of(alloc, text.as_bytes())?,
             Section::Outline => files::outline_of(alloc, text.as_bytes())?,
@@ -83,6 +89,8 @@ fn section_of(name: &str) -> Section {
     match name {
         "[declaration]" => Section::Declaration,
         "[type name]" => Section::TypeName,
+        "[statement]" => Section::Statement,
+        "[block item]" => Section::BlockItem,
         "[ends whole]" => Section::EndsWhole,
         "[items]" => Section::Items,
         "[outline]" => Section::Outline,

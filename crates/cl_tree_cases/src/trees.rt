@@ -2,9 +2,9 @@
 
 use cl_base::{Duplicate, List, Mem, PpToken, Span};
 use cl_declr::{parse_declaration, parse_type_name};
-use cl_expr::parse_expr;
+use cl_expr::{parse, parse_expr};
 use cl_lex::lex;
-use cl_tree::{NameSet, Rule, Tree};
+use cl_tree::{NameSet, Nonterminal, Rule, Tree};
 use std::alloc::Global;
 
 /// The tree of an expression as it is written out, or `none`.
@@ -25,6 +25,20 @@ pub(crate) fn declaration(alloc: Global, text: &[u8], typedefs: &NameSet) -> Mem
 pub(crate) fn type_name(alloc: Global, text: &[u8], typedefs: &NameSet) -> Mem<String> {
     let tokens = tokens_of(alloc, text)?;
     let tree = parse_type_name(alloc, tokens.as_slice(), typedefs)?;
+    written(alloc, tokens.as_slice(), tree)
+}
+
+/// That of a statement.
+pub(crate) fn statement(alloc: Global, text: &[u8], typedefs: &NameSet) -> Mem<String> {
+    let tokens = tokens_of(alloc, text)?;
+    let tree = parse(alloc, tokens.as_slice(), typedefs, Nonterminal::Statement)?;
+    written(alloc, tokens.as_slice(), tree)
+}
+
+/// That of an item of a block.
+pub(crate) fn block_item(alloc: Global, text: &[u8], typedefs: &NameSet) -> Mem<String> {
+    let tokens = tokens_of(alloc, text)?;
+    let tree = parse(alloc, tokens.as_slice(), typedefs, Nonterminal::BlockItem)?;
     written(alloc, tokens.as_slice(), tree)
 }
 

@@ -1,4 +1,4 @@
-use crate::grammar_cases::{fifth, first, fourth, second, third};
+use crate::grammar_cases::{fifth, first, fourth, second, sixth, third};
 use cl_base::Mem;
 use cl_tree::{
     Class, Nonterminal, Part, Production, Rule, Symbol, Terminal, parts, productions, units,
@@ -16,7 +16,8 @@ fn table(rt: HostRuntime) -> Result<(), Fail> {
     assert!(rt; are_found(second(), lines), "the second lines");
     assert!(rt; are_found(third(), lines), "the third lines");
     assert!(rt; are_found(fourth(), lines), "the fourth lines");
-    assert!(rt; are_found(fifth(), lines), "the last lines");
+    assert!(rt; are_found(fifth(), lines), "the fifth lines");
+    assert!(rt; are_found(sixth(), lines), "the last lines");
     for line in lines {
         assert!(rt; is_typed(line.as_bytes()), "{line}");
     }
@@ -37,6 +38,7 @@ fn is_typed(line: &[u8]) -> bool {
         || is_among(third(), line)
         || is_among(fourth(), line)
         || is_among(fifth(), line)
+        || is_among(sixth(), line)
 }
 
 fn is_among(typed: &[&[u8]], line: &[u8]) -> bool {
@@ -113,7 +115,7 @@ fn with(alloc: Global, line: &String, symbol: Symbol) -> Mem<String> {
 /// A terminal without what it asks of the tokens around it.
 fn plain(terminal: Terminal) -> Class {
     match terminal {
-        Terminal::Name | Terminal::Typed => Class::Ident,
+        Terminal::Name | Terminal::Typed | Terminal::Label | Terminal::Marked => Class::Ident,
         Terminal::Open | Terminal::TypeOpen => Class::LeftParen,
         Terminal::Body => Class::LeftBrace,
         Terminal::Is(Class::TypeParen) | Terminal::Is(Class::LiteralParen) => Class::LeftParen,
@@ -130,6 +132,11 @@ fn standard(goal: Nonterminal) -> Nonterminal {
         Nonterminal::LaterTypeSpecifier => Nonterminal::TypeSpecifier,
         Nonterminal::ParameterDeclarator => Nonterminal::Declarator,
         Nonterminal::DirectParameterDeclarator => Nonterminal::DirectDeclarator,
+        Nonterminal::UnlabelledExpression | Nonterminal::PlainExpression => Nonterminal::Expression,
+        Nonterminal::BlockSpecifiers => Nonterminal::DeclarationSpecifiers,
+        Nonterminal::BlockDeclaration => Nonterminal::Declaration,
+        Nonterminal::BlockStatement => Nonterminal::Statement,
+        Nonterminal::BlockExpressionStatement => Nonterminal::ExpressionStatement,
         other => other,
     }
 }

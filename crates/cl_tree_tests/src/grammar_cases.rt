@@ -1,4 +1,4 @@
-//! Each alternative of N1570 A.2.1, A.2.2 and A.2.4, with and without each of its optional parts, as typed in from the standard; of a list
+//! Each alternative of N1570 A.2, with and without each of its optional parts, as typed in from the standard; of a list
 //! rule, one member. Written by tools/grammar/standard.py. The rules for specifiers stand apart: here they are one node.
 
 static FIRST: [&[u8]; 42] = [
@@ -27,8 +27,13 @@ static FIRST: [&[u8]; 42] = [
     b"AssignmentOperator 8: AmpersandEqual",
     b"AssignmentOperator 9: CaretEqual",
     b"AtomicTypeSpecifier 0: Atomic LeftParen TypeName RightParen",
+    b"BlockItem unit: Declaration",
+    b"BlockItem unit: Statement",
+    b"BlockItemList 0: BlockItem",
     b"CastExpression 1: LeftParen TypeName RightParen CastExpression",
     b"CastExpression unit: UnaryExpression",
+    b"CompoundStatement 0: LeftBrace BlockItemList RightBrace",
+    b"CompoundStatement 0: LeftBrace RightBrace",
     b"ConditionalExpression 1: LogicalOrExpression Question Expression Colon ConditionalExpression",
     b"ConditionalExpression unit: LogicalOrExpression",
     b"ConstantExpression unit: ConditionalExpression",
@@ -39,11 +44,6 @@ static FIRST: [&[u8]; 42] = [
     b"Declarator unit: DirectDeclarator",
     b"Designation 0: DesignatorList Equal",
     b"Designator 0: LeftBracket ConstantExpression RightBracket",
-    b"Designator 1: Dot Ident",
-    b"DesignatorList 0: Designator",
-    b"DirectAbstractDeclarator 0: LeftParen AbstractDeclarator RightParen",
-    b"DirectAbstractDeclarator 1: DirectAbstractDeclarator LeftBracket AssignmentExpression RightBracket",
-    b"DirectAbstractDeclarator 1: DirectAbstractDeclarator LeftBracket RightBracket",
 ];
 
 pub fn first() -> &'static [&'static [u8]] {
@@ -51,6 +51,11 @@ pub fn first() -> &'static [&'static [u8]] {
 }
 
 static SECOND: [&[u8]; 42] = [
+    b"Designator 1: Dot Ident",
+    b"DesignatorList 0: Designator",
+    b"DirectAbstractDeclarator 0: LeftParen AbstractDeclarator RightParen",
+    b"DirectAbstractDeclarator 1: DirectAbstractDeclarator LeftBracket AssignmentExpression RightBracket",
+    b"DirectAbstractDeclarator 1: DirectAbstractDeclarator LeftBracket RightBracket",
     b"DirectAbstractDeclarator 1: DirectAbstractDeclarator LeftBracket TypeQualifierList AssignmentExpression RightBracket",
     b"DirectAbstractDeclarator 1: DirectAbstractDeclarator LeftBracket TypeQualifierList RightBracket",
     b"DirectAbstractDeclarator 1: LeftBracket AssignmentExpression RightBracket",
@@ -88,11 +93,6 @@ static SECOND: [&[u8]; 42] = [
     b"EnumSpecifier 1: Enum Ident LeftBrace EnumeratorList Comma RightBrace",
     b"EnumSpecifier 1: Enum LeftBrace EnumeratorList Comma RightBrace",
     b"EnumSpecifier 2: Enum Ident",
-    b"Enumerator 0: Ident",
-    b"Enumerator 1: Ident Equal ConstantExpression",
-    b"EnumeratorList 0: Enumerator",
-    b"EqualityExpression 1: EqualityExpression EqualEqual RelationalExpression",
-    b"EqualityExpression 2: EqualityExpression BangEqual RelationalExpression",
 ];
 
 pub fn second() -> &'static [&'static [u8]] {
@@ -100,11 +100,18 @@ pub fn second() -> &'static [&'static [u8]] {
 }
 
 static THIRD: [&[u8]; 42] = [
+    b"Enumerator 0: Ident",
+    b"Enumerator 1: Ident Equal ConstantExpression",
+    b"EnumeratorList 0: Enumerator",
+    b"EqualityExpression 1: EqualityExpression EqualEqual RelationalExpression",
+    b"EqualityExpression 2: EqualityExpression BangEqual RelationalExpression",
     b"EqualityExpression unit: RelationalExpression",
     b"ExclusiveOrExpression 1: ExclusiveOrExpression Caret AndExpression",
     b"ExclusiveOrExpression unit: AndExpression",
     b"Expression 1: Expression Comma AssignmentExpression",
     b"Expression unit: AssignmentExpression",
+    b"ExpressionStatement 0: Expression Semicolon",
+    b"ExpressionStatement 0: Semicolon",
     b"FunctionDefinition 0: DeclarationSpecifiers Declarator CompoundStatement",
     b"FunctionSpecifier 0: Inline",
     b"FunctionSpecifier 1: Noreturn",
@@ -123,6 +130,35 @@ static THIRD: [&[u8]; 42] = [
     b"Initializer unit: AssignmentExpression",
     b"InitializerList 0: Designation Initializer",
     b"InitializerList 0: Initializer",
+    b"IterationStatement 0: While LeftParen Expression RightParen Statement",
+    b"IterationStatement 1: Do Statement While LeftParen Expression RightParen Semicolon",
+    b"IterationStatement 2: For LeftParen Expression Semicolon Expression Semicolon Expression RightParen Statement",
+    b"IterationStatement 2: For LeftParen Expression Semicolon Expression Semicolon RightParen Statement",
+    b"IterationStatement 2: For LeftParen Expression Semicolon Semicolon Expression RightParen Statement",
+    b"IterationStatement 2: For LeftParen Expression Semicolon Semicolon RightParen Statement",
+    b"IterationStatement 2: For LeftParen Semicolon Expression Semicolon Expression RightParen Statement",
+    b"IterationStatement 2: For LeftParen Semicolon Expression Semicolon RightParen Statement",
+    b"IterationStatement 2: For LeftParen Semicolon Semicolon Expression RightParen Statement",
+    b"IterationStatement 2: For LeftParen Semicolon Semicolon RightParen Statement",
+    b"IterationStatement 3: For LeftParen Declaration Expression Semicolon Expression RightParen Statement",
+    b"IterationStatement 3: For LeftParen Declaration Expression Semicolon RightParen Statement",
+];
+
+pub fn third() -> &'static [&'static [u8]] {
+    &THIRD
+}
+
+static FOURTH: [&[u8]; 42] = [
+    b"IterationStatement 3: For LeftParen Declaration Semicolon Expression RightParen Statement",
+    b"IterationStatement 3: For LeftParen Declaration Semicolon RightParen Statement",
+    b"JumpStatement 0: Goto Ident Semicolon",
+    b"JumpStatement 1: Continue Semicolon",
+    b"JumpStatement 2: Break Semicolon",
+    b"JumpStatement 3: Return Expression Semicolon",
+    b"JumpStatement 3: Return Semicolon",
+    b"LabeledStatement 0: Ident Colon Statement",
+    b"LabeledStatement 1: Case ConstantExpression Colon Statement",
+    b"LabeledStatement 2: Default Colon Statement",
     b"LogicalAndExpression 1: LogicalAndExpression AndAnd InclusiveOrExpression",
     b"LogicalAndExpression unit: InclusiveOrExpression",
     b"LogicalOrExpression 1: LogicalOrExpression OrOr LogicalAndExpression",
@@ -142,13 +178,6 @@ static THIRD: [&[u8]; 42] = [
     b"Pointer 1: Star Pointer",
     b"Pointer 1: Star TypeQualifierList Pointer",
     b"PostfixExpression 1: PostfixExpression LeftBracket Expression RightBracket",
-];
-
-pub fn third() -> &'static [&'static [u8]] {
-    &THIRD
-}
-
-static FOURTH: [&[u8]; 42] = [
     b"PostfixExpression 2: PostfixExpression LeftParen ArgumentExpressionList RightParen",
     b"PostfixExpression 2: PostfixExpression LeftParen RightParen",
     b"PostfixExpression 3: PostfixExpression Dot Ident",
@@ -162,15 +191,31 @@ static FOURTH: [&[u8]; 42] = [
     b"PrimaryExpression 1: Constant",
     b"PrimaryExpression 2: String",
     b"PrimaryExpression 3: LeftParen Expression RightParen",
+];
+
+pub fn fourth() -> &'static [&'static [u8]] {
+    &FOURTH
+}
+
+static FIFTH: [&[u8]; 42] = [
     b"PrimaryExpression unit: GenericSelection",
     b"RelationalExpression 1: RelationalExpression Less ShiftExpression",
     b"RelationalExpression 2: RelationalExpression Greater ShiftExpression",
     b"RelationalExpression 3: RelationalExpression LessEqual ShiftExpression",
     b"RelationalExpression 4: RelationalExpression GreaterEqual ShiftExpression",
     b"RelationalExpression unit: ShiftExpression",
+    b"SelectionStatement 0: If LeftParen Expression RightParen Statement",
+    b"SelectionStatement 1: If LeftParen Expression RightParen Statement Else Statement",
+    b"SelectionStatement 2: Switch LeftParen Expression RightParen Statement",
     b"ShiftExpression 1: ShiftExpression ShiftLeft AdditiveExpression",
     b"ShiftExpression 2: ShiftExpression ShiftRight AdditiveExpression",
     b"ShiftExpression unit: AdditiveExpression",
+    b"Statement unit: CompoundStatement",
+    b"Statement unit: ExpressionStatement",
+    b"Statement unit: IterationStatement",
+    b"Statement unit: JumpStatement",
+    b"Statement unit: LabeledStatement",
+    b"Statement unit: SelectionStatement",
     b"StaticAssertDeclaration 0: StaticAssert LeftParen ConstantExpression Comma String RightParen Semicolon",
     b"StorageClassSpecifier 0: Typedef",
     b"StorageClassSpecifier 1: Extern",
@@ -191,17 +236,17 @@ static FOURTH: [&[u8]; 42] = [
     b"StructOrUnionSpecifier 0: StructOrUnion Ident LeftBrace StructDeclarationList RightBrace",
     b"StructOrUnionSpecifier 0: StructOrUnion LeftBrace StructDeclarationList RightBrace",
     b"StructOrUnionSpecifier 1: StructOrUnion Ident",
-];
-
-pub fn fourth() -> &'static [&'static [u8]] {
-    &FOURTH
-}
-
-static FIFTH: [&[u8]; 35] = [
     b"TypeName 0: SpecifierQualifierList AbstractDeclarator",
     b"TypeName unit: SpecifierQualifierList",
     b"TypeQualifier 0: Const",
     b"TypeQualifier 1: Restrict",
+];
+
+pub fn fifth() -> &'static [&'static [u8]] {
+    &FIFTH
+}
+
+static SIXTH: [&[u8]; 31] = [
     b"TypeQualifier 2: Volatile",
     b"TypeQualifier 3: Atomic",
     b"TypeQualifierList 0: TypeQualifier",
@@ -235,6 +280,6 @@ static FIFTH: [&[u8]; 35] = [
     b"UnaryOperator 5: Bang",
 ];
 
-pub fn fifth() -> &'static [&'static [u8]] {
-    &FIFTH
+pub fn sixth() -> &'static [&'static [u8]] {
+    &SIXTH
 }

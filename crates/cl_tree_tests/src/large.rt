@@ -1,6 +1,7 @@
 use crate::reading::{tokens_of, two_names};
 use cl_base::Mem;
-use cl_expr::parse_expr;
+use cl_expr::{parse, parse_expr};
+use cl_tree::Nonterminal;
 use std::alloc::Global;
 use std::test::Fail;
 
@@ -80,17 +81,89 @@ static CASES: [Case; 9] = [
     },
 ];
 
+/// The height of `{ }` is 2, and each `{` around it makes two more; that of `if (a) ;` is 3, and each `if (a)` before it makes one.
+static STATEMENTS: [Case; 8] = [
+    Case {
+        before: b"{",
+        count: 100_000,
+        middle: b"",
+        after: b"}",
+        has_tree: false,
+    },
+    Case {
+        before: b"{",
+        count: 256,
+        middle: b"",
+        after: b"}",
+        has_tree: true,
+    },
+    Case {
+        before: b"{",
+        count: 257,
+        middle: b"",
+        after: b"}",
+        has_tree: false,
+    },
+    Case {
+        before: b"if (a) ",
+        count: 510,
+        middle: b";",
+        after: b"",
+        has_tree: true,
+    },
+    Case {
+        before: b"if (a) ",
+        count: 511,
+        middle: b";",
+        after: b"",
+        has_tree: false,
+    },
+    Case {
+        before: b"if (a) ; else ",
+        count: 100_000,
+        middle: b";",
+        after: b"",
+        has_tree: false,
+    },
+    Case {
+        before: b"if (a) ",
+        count: 250,
+        middle: b";",
+        after: b" else ;",
+        has_tree: true,
+    },
+    Case {
+        before: b"a: ",
+        count: 300_000,
+        middle: b";",
+        after: b"",
+        has_tree: false,
+    },
+];
+
 #[test]
 fn sizes(rt: HostRuntime) -> Result<(), Fail> {
     let alloc = rt.alloc();
     for case in CASES.as_slice() {
-        assert!(rt; has_tree(alloc, case)? == case.has_tree, "{}", case.count);
+        let found = has_tree(alloc, case, Nonterminal::Expression)?;
+        assert!(rt; found == case.has_tree, "{}", case.count);
     }
     assert!(rt; call(alloc)?, "a call with a million arguments");
     Ok(())
 }
 
-fn has_tree(alloc: Global, case: &Case) -> Mem<bool> {
+#[test]
+fn statements(rt: HostRuntime) -> Result<(), Fail> {
+    let alloc = rt.alloc();
+    for case in STATEMENTS.as_slice() {
+        let found = has_tree(alloc, case, Nonterminal::Statement)?;
+        assert!(rt; found == case.has_tree, "{}", case.count);
+    }
+    assert!(rt; block(alloc)?, "a block of 600,000 items");
+    Ok(())
+}
+
+fn has_tree(alloc: Global, case: &Case, goal: Nonterminal) -> Mem<bool> {
     let mut text = Vec::new(alloc);
     for _ in 0..case.count {
         text.extend_from_slice(case.before)?;
@@ -100,7 +173,7 @@ fn has_tree(alloc: Global, case: &Case) -> Mem<bool> {
         text.extend_from_slice(case.after)?;
     }
     let tokens = tokens_of(alloc, text.as_slice())?;
-    let tree = parse_expr(alloc, tokens.as_slice(), &two_names(alloc)?)?;
+    let tree = parse(alloc, tokens.as_slice(), &two_names(alloc)?, goal)?;
     Ok(tree.is_some())
 }
 
@@ -120,4 +193,23 @@ fn call(alloc: Global) -> Mem<bool> {
         return Ok(false);
     };
     Ok(tree.to as usize == tokens.len() && list.parts.len() == 1_000_000)
+}
+
+/// Whether a block of many items has its tree: its second part has as many parts.
+fn block(alloc: Global) -> Mem<bool> {
+    let mut text = Vec::new(alloc);
+    text.extend_from_slice(b"{")?;
+    for _ in 0..200_000 {
+        text.extend_from_slice(b"if (T) x; T y; { }")?;
+    }
+    text.extend_from_slice(b"}")?;
+    let tokens = tokens_of(alloc, text.as_slice())?;
+    let goal = Nonterminal::CompoundStatement;
+    let Some(tree) = parse(alloc, tokens.as_slice(), &two_names(alloc)?, goal)? else {
+        return Ok(false);
+    };
+    let Some(list) = tree.parts.get(1) else {
+        return Ok(false);
+    };
+    Ok(tree.to as usize == tokens.len() && list.parts.len() == 600_000)
 }

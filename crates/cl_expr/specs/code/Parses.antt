@@ -15,10 +15,10 @@ use Rattle.cl_base.specs.declared.memory.Memory.{Memory}
 use Rattle.std.specs.Borrow.{Bor}
 use Rattle.cl_tree.specs.declared.lexeme.Lexeme.{Lexeme}
 use Rattle.cl_tree.specs.declared.scope.Scope.{Scope}
-use Rattle.cl_tree.specs.Scopes.{class_at}
+use Rattle.cl_tree.specs.Scopes.{class_at, leave}
 use Rattle.cl_tree.specs.Grammar.{takes}
-use Rattle.cl_expr.specs.code.Table.{edges, home, corner, kinds, openers, suffixes, firsts, ends, goes}
-use Rattle.cl_tree.specs.Derives.{Has, start, end, parts}
+use Rattle.cl_expr.specs.code.Table.{edges, scoped, home, corner, kinds, openers, suffixes, firsts, ends, goes}
+use Rattle.cl_tree.specs.Derives.{Has, start, end, parts, Opened}
 use Rattle.cl_expr.specs.code.Paths.{name, node, Ended, ReadsAfter, Path, Kind, At}
 
 abbrev pub AllOf : (Tree → Type 0) → List Tree → Type 0
@@ -70,7 +70,7 @@ pub record Sound (cs : List Lexeme) (h : ℕ) (s : Scope) (f : Found) : Type 0 w
 
 -- the answer is the one tree of the nonterminal from that place after which no token goes on
 pub record Parses (cs : List Lexeme) (h : ℕ) (s : Scope) (g : Nonterminal) (at : ℕ) (r : Option Found) : Type 0 where
-  pub found : IfSome r (λ f. Sound cs h s f × Has (kinds g) f.place × (start f.tree ≡ at))
+  pub found : IfSome r (λ f. Sound cs h s f × Has (kinds g) f.place × (start f.tree ≡ at) × Opened cs g s at)
   pub only : (t : Tree) (z : ℕ) (w : Scope) → At cs h g z s t w → start t ≡ at → Stops cs w g (end t) → Gives r t z w
 
 -- a function value that parses
@@ -105,11 +105,11 @@ pub record Half (cs : List Lexeme) (h : ℕ) (sa sm : Scope) (q : ℕ) (ps : Lis
   pub above : from ≤ mid
   pub high : height ≤ h
 
--- the answer is the one node that has these parts and goes on from there
+-- the answer is the one node that has these parts and goes on from there; sv is declared at its end
 pub record Builds (cs : List Lexeme) (h : ℕ) (sa sm : Scope) (q : ℕ) (ps : List Tree) (from mid : ℕ) (r : Option Found) : Type 0 where
   pub found : IfSome r (λ f. Sound cs (suc h) sa f × (start f.tree ≡ from) × (mid < end f.tree))
   pub only : (to : ℕ) (rest : List Tree) (z : ℕ) (sv : Scope) (n : Label) → Path (At cs h) h cs q sm mid to rest z sv → Ended cs sv z to n → Halts cs sv q to
-      → Gives r (node n from to (ps ++ rest)) z sv
+      → Gives r (node n from to (ps ++ rest)) z (leave (scoped z) sa sv)
 
 -- the answer is the one node that begins a tree of the nonterminal
 pub record Opens (cs : List Lexeme) (h : ℕ) (s : Scope) (g : Nonterminal) (at : ℕ) (r : Option Found) : Type 0 where

@@ -9,11 +9,11 @@ use Rattle.cl_tree.specs.declared.tree.Tree.{Tree, out-Tree, roll-Tree}
 use Rattle.cl_tree.specs.declared.lexeme.Lexeme.{Lexeme}
 use Rattle.cl_tree.specs.declared.scope.Scope.{Scope}
 use Rattle.cl_tree.specs.Grammar.{takes}
-use Rattle.cl_tree.specs.Scopes.{class_at, pass}
-use Rattle.cl_tree.specs.Derives.{Has, start, end, parts, piece, Closed}
+use Rattle.cl_tree.specs.Scopes.{class_at, pass, leave}
+use Rattle.cl_tree.specs.Derives.{Has, start, end, parts, piece, Closed, Opened}
 use Rattle.cl_expr.specs.declared.table.Edge.{Edge}
 use Rattle.cl_expr.specs.declared.table.Label.{Label}
-use Rattle.cl_expr.specs.code.Table.{edges, name_of, bars, turn, home, kinds}
+use Rattle.cl_expr.specs.code.Table.{edges, name_of, bars, scoped, turn, home, kinds}
 
 abbrev pub name : Tree → Label
 name t = record { rule = (out-Tree t).rule; choice = (out-Tree t).choice }
@@ -42,15 +42,16 @@ module _ (D : Nonterminal → ℕ → Scope → Tree → Scope → Type 0) (h : 
   Path q s at to [] z v = (at ≡ to) × (q ≡ z) × (s ≡ v)
   Path q s at to (p ∷ ps) z v = (e : Edge) × (y : ℕ) × (w : Scope) × Has (edges q) e × ReadsAfter e.before e.symbol y s at p w × Path (turn e.next y) w (end p) to ps z v
 
--- a tree of a kind, which is the place where its production ends; its height is at most h; s is declared before it, w after it
+-- a tree of a kind, which is the place where its production ends; its height is at most h; s is declared before it, v at its end, w after it
 unfoldable pub Kind : List Lexeme → ℕ → ℕ → Scope → Tree → Scope → Type 0
 Kind cs zero z s t w = ⊥
 Kind cs (suc h) z s t w =
-    Ended cs w z (end t) (name t) × Path (λ g y s' p w'. Has (kinds g) y × Kind cs h y s' p w') h cs (home z) s (start t) (end t) (parts t) z w
+    (v : Scope) × (w ≡ leave (scoped z) s v) × Ended cs v z (end t) (name t)
+    × Path (λ g y s' p w'. Has (kinds g) y × Kind cs h y s' p w' × Opened cs g s' (start p)) h cs (home z) s (start t) (end t) (parts t) z v
 
 -- a tree of a nonterminal
 abbrev pub At : List Lexeme → ℕ → Nonterminal → ℕ → Scope → Tree → Scope → Type 0
-At cs h g z s t w = Has (kinds g) z × Kind cs h z s t w
+At cs h g z s t w = Has (kinds g) z × Kind cs h z s t w × Opened cs g s (start t)
 
 -- the tree is one of the nonterminal on all of the tokens from one on, of a height of at most 512; s is declared before it, w after it
 pub record Whole (g : Nonterminal) (cs : List Lexeme) (s : Scope) (first : ℕ) (t : Tree) (w : Scope) : Type 0 where

@@ -37,6 +37,7 @@ overflow_add-result g c = omega (arith, c.loop-edge.invariant.half.high, c.requi
 
 pub returns : goal.returns
 returns g c =
+    rw c.in_ok-after.ensures
     (reading_end c.args.self.now.tokens.now c.args.self.now.depth c.args.before.now c.args.inner c.args.start c.args.first c.args.from c.args.mid c.loop-edge.scope c.loop-edge.place c.loop-edge.parts c.loop-edge.to c.loop-edge.height c.loop-edge.invariant
     (λ k t n. c.edge.ensures.none c.in_default.is k t n) c.in-Some-name_of.label c.requires.unnamed
     (sym c.name_of.ensures ∙ c.in-Some-name_of.is, λ k t b. c.barred-barred.ensures.no c.if-barred.false k t b))
