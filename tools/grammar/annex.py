@@ -27,6 +27,7 @@ EXTRA = ("OtherSpecifier LaterTypeSpecifier LaterSpecifier ParameterDeclarator D
   "UnlabelledExpression PlainExpression BlockStatement BlockExpressionStatement BlockDeclaration BlockSpecifiers").split()
 def T(c, act='Stay'): return ('T', c, act)
 def N(g): return ('N', g)
+ENTRY = ('I', 'BlockItem')      # an item of a block, or what is none
 def opt(s): return ('?', s)
 def many(s): return ('*', s)
 SECTION = []; UNITS = {}; PRODS = []
@@ -152,7 +153,7 @@ U('Statement', 'LabeledStatement', 'CompoundStatement', 'ExpressionStatement', '
 l = 'LabeledStatement'
 R(l, l, 0, T('Label'), COLON, STATEMENT); R(l, l, 1, T('Case'), CONST, COLON, STATEMENT); R(l, l, 2, T('Default'), COLON, STATEMENT)
 R('CompoundStatement', 'CompoundStatement', 0, T('LeftBrace', 'Open'), opt(N('BlockItemList')), T('RightBrace', 'Close'))
-R('BlockItemList', 'BlockItemList', 0, N('BlockItem'), many(N('BlockItem')))
+R('BlockItemList', 'BlockItemList', 0, ENTRY, many(ENTRY))
 U('BlockItem', 'BlockDeclaration', 'BlockStatement')
 R('ExpressionStatement', 'ExpressionStatement', 0, opt(N('UnlabelledExpression')), SEMI)
 s = 'SelectionStatement'

@@ -27,7 +27,7 @@ def chunked(name, ty, items, size, one_line=True):
     if one_line: return f'static {name}: [{ty}; {len(items)}] = [\n' + wrap(items) + '];\n\n'
     return f'static {name}: [{ty}; {len(items)}] = rows! {{\n' + wrap(items) + '};\n\n'
 def cterm(t): return f'Terminal::{t}' if t in SETS else f'is!({t})'
-def csym(s): return f'node!({s[1]})' if s[0] == 'N' else (f'token!({cterm(s[1])})' if s[2] == 'Stay' else f'act!({cterm(s[1])}, {s[2]})')
+def csym(s): return 'Symbol::Entry' if s[0] == 'I' else f'node!({s[1]})' if s[0] == 'N' else (f'token!({cterm(s[1])})' if s[2] == 'Stay' else f'act!({cterm(s[1])}, {s[2]})')
 def cedge(x):
     a, s, n = x
     return f'edge!({csym(s)}, {n})' if a is None else f'after!({a[0]}, {a[1]}, {csym(s)}, {n})'
@@ -307,7 +307,7 @@ use Rattle.cl_tree.specs.declared.grammar.Terminal.{Terminal}
 use Rattle.cl_tree.specs.declared.grammar.Terminal.TheVariants as te
 use Rattle.cl_tree.specs.declared.grammar.Act.TheVariants as ac
 use Rattle.cl_tree.specs.declared.grammar.Symbol.{Symbol}
-use Rattle.cl_tree.specs.declared.grammar.Symbol.TheVariants.{Token, Node}
+use Rattle.cl_tree.specs.declared.grammar.Symbol.TheVariants.{Token, Node, Entry}
 use Rattle.cl_tree.specs.declared.grammar.Separator.{Separator}
 use Rattle.cl_tree.specs.Derives.{barred}
 use Rattle.cl_expr.specs.declared.table.Edge.{Edge}
@@ -325,7 +325,8 @@ pub record Item : Type 0 where
 
 -- a place: what may stand there, the node that may end there, what may not follow it and whether it is a block, the nonterminal with which its
 -- production begins if that is read before, the places after a part that turns on its kind, whether the node is a declarator that names something,
--- the place where the production begins, the tokens that go on from where the node may end, and the productions that are there
+-- the place where the production begins, whether it holds no block, the tokens that go on from where the node may end, and the productions that are
+-- there
 pub record Place : Type 0 where
   pub edges : List Edge
   pub label : Option Label
@@ -335,11 +336,12 @@ pub record Place : Type 0 where
   pub turning : Option Ways
   pub named : Bool
   pub home : ℕ
+  pub flat : Bool
   pub ends : List Class
   pub items : List Item
 
 -- a nonterminal: the places where its trees end, those at its left end, those that go on from there, the tokens that begin it, that go on from it
--- and that may not begin it
+-- and that may not begin it, and whether it holds no block
 pub record Goal : Type 0 where
   pub kinds : List ℕ
   pub openers : List ℕ
@@ -347,6 +349,7 @@ pub record Goal : Type 0 where
   pub firsts : List Class
   pub goes : List Class
   pub shuns : Option Terminal
+  pub flat : Bool
 
 abbrev e : Symbol → ℕ → Edge
 e s n = record { before = None; symbol = s; next = n }
@@ -367,20 +370,20 @@ abbrev ways : ℕ → ℕ → Option Ways
 ways a b = Some (record { named = a; other = b })
 
 abbrev pub nowhere : Place
-nowhere = record { edges = []; label = None; bar = None; scoped = false; corner = None; turning = None; named = false; home = 0; ends = []; items = [] }
+nowhere = record { edges = []; label = None; bar = None; scoped = false; corner = None; turning = None; named = false; home = 0; flat = true; ends = []; items = [] }
 
 abbrev pub nothing : Goal
-nothing = record { kinds = []; openers = []; suffixes = []; firsts = []; goes = []; shuns = None }
+nothing = record { kinds = []; openers = []; suffixes = []; firsts = []; goes = []; shuns = None; flat = true }
 
-abbrev row : List Edge → Option Label → Option Terminal → Bool → Option Head → Option Ways → Bool → ℕ → List Class → List Item → Place
-row es l b s c t n h ends is = record { edges = es; label = l; bar = b; scoped = s; corner = c; turning = t; named = n; home = h; ends = ends; items = is }
+abbrev row : List Edge → Option Label → Option Terminal → Bool → Option Head → Option Ways → Bool → ℕ → Bool → List Class → List Item → Place
+row es l b s c t n h f ends is = record { edges = es; label = l; bar = b; scoped = s; corner = c; turning = t; named = n; home = h; flat = f; ends = ends; items = is }
 
 unfoldable pub places : List Place
 places =
 '''.replace('abbrev label : _ → ℕ', 'abbrev label : Rule → ℕ').replace('use Rattle.cl_tree.specs.declared.rule.Rule.TheVariants as ru', 'use Rattle.cl_tree.specs.declared.rule.Rule.{Rule}\nuse Rattle.cl_tree.specs.declared.rule.Rule.TheVariants as ru')
 def lst(xs): return '(' + ' ∷ '.join(xs + ['[]']) + ')' if xs else '[]'
 def tterm_a(t): return ("te." + t) if t in SETS else "(te.Is cl." + t + ")"
-def tsym_a(s): return f'(Node nt.{s[1]})' if s[0] == 'N' else f'(Token {tterm_a(s[1])} ac.{s[2]})'
+def tsym_a(s): return 'Entry' if s[0] == 'I' else f'(Node nt.{s[1]})' if s[0] == 'N' else f'(Token {tterm_a(s[1])} ac.{s[2]})'
 def edge_a(x):
     a, s, n = x
     return f'e {tsym_a(s)} {n}' if a is None else f'after (record {{ class = cl.{a[0]}; act = ac.{a[1]} }}) {tsym_a(s)} {n}'
@@ -388,11 +391,15 @@ for n, q in enumerate(P):
     if q['items']: A += f'    -- {n}: ' + '; '.join(show(*x) for x in q['items'][:2]) + (' ..' if len(q['items']) > 2 else '') + '\n'
     else: A += f'    -- {n}: ' + ('a token' if n == 0 else 'a declarator was read') + '\n'
     lab = f'(label ru.{q["name"][0]} {q["name"][1]})' if q['name'] else 'None'
-    A += f'    row {lst([edge_a(x) for x in q["edges"]])} {lab} {"(Some %s)" % tterm_a(q["bar"]) if q["bar"] else "None"} {"true" if q["scoped"] else "false"} {"(head nt.%s %d)" % q["corner"] if q["corner"] else "None"} {"(ways %d %d)" % q["turn"] if q["turn"] else "None"} {"true" if is_named[n] else "false"} {q["home"]} {lst(["cl." + c for c in order(ends[n])])} {lst(["i %d %d" % x for x in q["items"]])} ∷\n'
+    A += f'    row {lst([edge_a(x) for x in q["edges"]])} {lab} {"(Some %s)" % tterm_a(q["bar"]) if q["bar"] else "None"} {"true" if q["scoped"] else "false"} {"(head nt.%s %d)" % q["corner"] if q["corner"] else "None"} {"(ways %d %d)" % q["turn"] if q["turn"] else "None"} {"true" if is_named[n] else "false"} {q["home"]} {"true" if flat[q["home"]] else "false"} {lst(["cl." + c for c in order(ends[n])])} {lst(["i %d %d" % x for x in q["items"]])} ∷\n'
 A += '    []\n\nunfoldable pub goals : List Goal\ngoals =\n'
 for g in GOALS:
-    A += f'    -- {g}\n    record {{ kinds = {lst([str(z) for z in K[g]])}; openers = {lst([str(z) for z in openers[g]])}; suffixes = {lst([str(z) for z in suffixes[g]])}; firsts = {lst(["cl." + c for c in order(F[g])])}; goes = {lst(["cl." + c for c in order(goes[g])])}; shuns = {"Some %s" % tterm_a(SHUNS[g]) if g in SHUNS else "None"} }} ∷\n'
+    A += f'    -- {g}\n    record {{ kinds = {lst([str(z) for z in K[g]])}; openers = {lst([str(z) for z in openers[g]])}; suffixes = {lst([str(z) for z in suffixes[g]])}; firsts = {lst(["cl." + c for c in order(F[g])])}; goes = {lst(["cl." + c for c in order(goes[g])])}; shuns = {"Some %s" % tterm_a(SHUNS[g]) if g in SHUNS else "None"}; flat = {"true" if FLAT[g] else "false"} }} ∷\n'
 A += '''    []
+
+-- the tokens that begin an item of a block or what is none: all but what ends the block
+unfoldable pub entry_classes : List Class
+entry_classes = ''' + ' ∷ '.join(['cl.' + c for c in ENTRIES] + ['[]']) + '''
 
 -- the places where the productions begin, by the numbers of these
 unfoldable pub starts : List ℕ
@@ -462,6 +469,12 @@ firsts g = (goal (number g)).firsts
 
 unfoldable pub goes : Nonterminal → List Class
 goes g = (goal (number g)).goes
+
+unfoldable pub flat : ℕ → Bool
+flat q = (place q).flat
+
+unfoldable pub flat_goal : Nonterminal → Bool
+flat_goal g = (goal (number g)).flat
 
 unfoldable pub shunned : Nonterminal → Option Terminal
 shunned g = (goal (number g)).shuns

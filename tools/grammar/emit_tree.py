@@ -32,10 +32,9 @@ CLASS_DOC = dict(Ident='An identifier that is no typedef name', IdentColon='The 
   LeftParen='`(` before what begins no type', TypeParen='`(` before what may begin a type', LiteralParen='The same where its partner stands directly before `{`', AtomicParen='`_Atomic` directly before `(`', Other='A token that no production takes')
 WORDS = dict(Sizeof='sizeof', Alignof='_Alignof', Generic='_Generic', StaticAssert='_Static_assert', ThreadLocal='_Thread_local', Bool='_Bool', Atomic='_Atomic', Noreturn='_Noreturn', Alignas='_Alignas')
 def word(c): return WORDS.get(c, c.lower())
-def sym_rs(s): return f'Symbol::Node(Nonterminal::{s[1]})' if s[0] == 'N' else f'Symbol::Token({term_rs(s[1])}, Act::{s[2]})'
 def term_rs(t): return f'Terminal::{t}' if t in SETS else f'Terminal::Is(Class::{t})'
 def term_a(t): return f'te.{t}' if t in SETS else f'(is cl.{t})'
-def sym_a(s): return f'(n nt.{s[1]})' if s[0] == 'N' else (f'(t {term_a(s[1])})' if s[2] == 'Stay' else f'(act {term_a(s[1])} ac.{s[2]})')
+def sym_a(s): return 'entry' if s[0] == 'I' else f'(n nt.{s[1]})' if s[0] == 'N' else (f'(t {term_a(s[1])})' if s[2] == 'Stay' else f'(act {term_a(s[1])} ac.{s[2]})')
 def form(p, plain): return {(None, False): plain, ('Typed', False): 'untyped', (None, True): 'scoped', ('Else', True): 'without_else'}[(p['bar'], p['scoped'])]
 PART = {'1': 'One', '?': 'Optional', '*': 'Many'}
 PART_A = {'1': 'one', '?': 'opt', '*': 'many'}
@@ -76,6 +75,8 @@ pub enum Symbol {
     Token(Terminal, Act),
     /// A tree of a nonterminal.
     Node(Nonterminal),
+    /// An item of a block, or where none derives what is no item.
+    Entry,
 }
 
 /// A part of a right side.
@@ -132,7 +133,7 @@ pub struct Unit {
 
 '''
     flat = [x for p in PRODS for x in p['parts']]; more = [x for p in PRODS for x in p['again']]
-    def csym(s): return f'node!({s[1]})' if s[0] == 'N' else (f'token!({cterm(s[1])})' if s[2] == 'Stay' else f'act!({cterm(s[1])}, {s[2]})')
+    def csym(s): return 'Symbol::Entry' if s[0] == 'I' else f'node!({s[1]})' if s[0] == 'N' else (f'token!({cterm(s[1])})' if s[2] == 'Stay' else f'act!({cterm(s[1])}, {s[2]})')
     def cterm(t): return f'Terminal::{t}' if t in SETS else f'is!({t})'
     w('src/grammar.rt', o.replace('ghost use Rattle.std.specs.Prelude.{◌≡◌, map};\nghost use Rattle.cl_tree.specs.Grammar as g;\n\n', '').rstrip() + '\n')
     q = """//! The right sides of the productions, one after the other. Written by tools/grammar/emit_tree.py.
@@ -329,7 +330,7 @@ use Rattle.cl_tree.specs.declared.grammar.Terminal.TheVariants as te
 use Rattle.cl_tree.specs.declared.grammar.Act.{Act}
 use Rattle.cl_tree.specs.declared.grammar.Act.TheVariants as ac
 use Rattle.cl_tree.specs.declared.grammar.Symbol.{Symbol}
-use Rattle.cl_tree.specs.declared.grammar.Symbol.TheVariants.{Token, Node}
+use Rattle.cl_tree.specs.declared.grammar.Symbol.TheVariants.{Token, Node, Entry}
 use Rattle.cl_tree.specs.declared.grammar.Part.{Part}
 use Rattle.cl_tree.specs.declared.grammar.Part.TheVariants.{One, Optional, Many}
 use Rattle.cl_tree.specs.declared.grammar.Again.{Again}
@@ -365,6 +366,10 @@ act k a = Token k a
 
 abbrev pub n : Nonterminal → Symbol
 n g = Node g
+
+-- an item of a block, or what is none
+abbrev pub entry : Symbol
+entry = Entry
 
 abbrev pub one : Symbol → Part
 one x = One x

@@ -99,7 +99,7 @@ is_named = [bool(q['name'] and q['name'][0] in NAMED_RULES) for q in P]
 def turn(n, y):
     w = P[n]['turn']
     return n if w is None else w[0] if is_named[y] else w[1]
-def ways(s): return [0] if s[0] == 'T' else K[s[1]]
+def ways(s): return [0] if s[0] == 'T' else K[s[1]] + ([0] if s[0] == 'I' else [])
 home = [q['home'] for q in P]
 openers = {}; suffixes = {}
 for g in GOALS:
@@ -114,7 +114,8 @@ for g in GOALS:
     for z in K[g]: add(z)
     openers[g] = O; suffixes[g] = S_
 F = {g: set() for g in GOALS}
-def beg_s(s): return set(takes(s[1])) if s[0] == 'T' else F[s[1]]
+ENTRIES = [c for c in CLASSES if c != 'RightBrace']
+def beg_s(s): return set(takes(s[1])) if s[0] == 'T' else set(ENTRIES) if s[0] == 'I' else F[s[1]]
 def beg(e): return {e[0][0]} if e[0] else beg_s(e[1])
 def entering(q): return set().union(*[beg(e) for e in P[q]['edges']]) if P[q]['edges'] else set()
 ch = True
@@ -169,6 +170,18 @@ for z, q in enumerate(P):
     if q['scoped'] and (ends[home[z]] or P[home[z]]['corner']): bad.append(('scoped', z, ends[home[z]]))
 for q in P:
     if q['corner'] and q['corner'][0] in SHUNS: bad.append(('corner', q['corner']))
+if goes['BlockItem'] or any('RightBrace' in F[g] for g in GOALS): bad.append(('entry', goes['BlockItem']))
+# what holds no block: the nonterminals and the productions from which no list of a block's items is reached
+FLAT = {g: True for g in GOALS}
+ch = True
+while ch:
+    ch = False
+    flat = {}
+    for q in range(len(P)): flat[home[q]] = flat.get(home[q], True) and all(s[0] == 'T' or s[0] == 'N' and FLAT[s[1]] for _, s, _ in P[q]['edges'])
+    for g in GOALS:
+        if FLAT[g] and not all(flat[home[z]] for z in K[g]): FLAT[g] = False; ch = True
+for q in P:
+    if q['corner'] and not FLAT[q['corner'][0]]: bad.append(('flat', q['corner']))
 def show(i, d):
     p = PRODS[i]
     t = []

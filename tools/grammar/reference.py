@@ -12,6 +12,18 @@ def lex(s):
         m = TOK.match(s, i); assert m, (s, i); out.append(m.group(1)); i = m.end()
     return out
 HERE = os.path.dirname(os.path.abspath(__file__))
+def pairs(toks):
+    """Each token's partner or itself: `}` pairs with the last open `{`, and what is open after that stays alone."""
+    out = list(range(len(toks))); stack = []
+    for i, t in enumerate(toks):
+        if t in ('(', '[', '{'): stack.append(i)
+        elif t == '}':
+            if any(toks[j] == '{' for j in stack):
+                while toks[stack[-1]] != '{': stack.pop()
+                j = stack.pop(); out[i] = j; out[j] = i
+        elif t in (')', ']') and stack and toks[stack[-1]] == {')': '(', ']': '['}[t]:
+            j = stack.pop(); out[i] = j; out[j] = i
+    return out
 class No(Exception): pass
 def node(r, c, *ps): return '(' + r + '.' + str(c) + ''.join(' ' + p for p in ps) + ')'
 class P:
@@ -295,9 +307,20 @@ class P:
         if t in ('continue', 'break'): return node('JumpStatement', 1 if t == 'continue' else 2, s.eat(), s.eat(';'))
         if t == 'return': return node('JumpStatement', 3, s.eat(), *s.maybe(';'), s.eat(';'))
         return node('ExpressionStatement', 0, *s.maybe(';'), s.eat(';'))
+    def item_or_bad(s):
+        """An item of a block, or where none derives the tokens past the first `;` or brace group at its depth, or up to the block's `}`."""
+        saved = s.save(); first = s.i
+        try: return s.block_item()
+        except No: s.back(saved)
+        partner = pairs(s.t)
+        while s.at() not in (None, '}'):
+            t = s.at(); p = partner[s.i]; group = t == '{' and p > s.i
+            s.i = max(s.i, p) + 1
+            if t == ';' or group: break
+        return node('Bad', 0, *s.t[first:s.i])
     def compound(s):
         o = s.eat(); items = []
-        while s.at() not in ('}', None): items.append(s.block_item())
+        while s.at() not in ('}', None): items.append(s.item_or_bad())
         return node('CompoundStatement', 0, o, *([node('BlockItemList', 0, *items)] if items else []), s.eat('}'))
     def selection(s):
         t = s.eat(); head = [t, s.eat('('), s.expr(), s.eat(')'), s.block(s.statement)]

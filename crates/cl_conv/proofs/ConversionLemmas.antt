@@ -3,9 +3,10 @@ use Rattle.std.proofs.Common.{◌≡◌, ◌∙◌, true, Option, Some, None, re
 use Rattle.cl_types.specs.declared.types.Basic.{Basic}
 use Rattle.cl_types.specs.declared.types.Basic.TheVariants.{Bool as BoolType, Char, SChar, UChar, Short, UShort, Int, UInt, Long, ULong, LLong, ULLong, Float, Double, LDouble}
 use Rattle.cl_types.specs.declared.types.CType.{CType, the_lemmas}
-use Rattle.cl_conv.specs.Operands.{arithmetic, is_arithmetic, is_arithmetic_kind}
+use Rattle.cl_conv.specs.Operands.{is_arithmetic, is_arithmetic_kind}
+use Rattle.cl_types.specs.Kinds.{arithmetic}
 use Rattle.cl_conv.specs.Operators.{is_converted, is_converted_kind, of_basic, promote, promote_kind, usual, usual_kinds}
-use Rattle.cl_conv.specs.Usual.{promoted, usual_basic}
+use Rattle.cl_types.specs.Usual.{promoted, usual_basic}
 
 basic_either : (a b : Basic) → usual_basic a b ≡ usual_basic b a
 basic_either BoolType Int = refl

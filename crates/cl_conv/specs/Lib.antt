@@ -1,5 +1,4 @@
+pub mod MemberOf
 pub mod Operands
 pub mod Operators
 pub mod Unary
-pub mod Usual
-pub mod code

@@ -1,23 +1,16 @@
 -- Operands, after the conversions that most operators do first: an array becomes a pointer to its element, a function a
 -- pointer to it, and any other operand loses its qualifiers and `_Atomic` (N1570 6.3.2.1p2 to p4).
-use Rattle.std.specs.Prelude.{◌==◌, ◌&&◌, ◌||◌, not, if◌then◌else◌, Bool, true, false, Option, Some, None, nat_le}
+use Rattle.std.specs.Prelude.{◌==◌, ◌&&◌, ◌||◌, not, Bool, true, false, Option, Some, None}
 use Rattle.cl_types.specs.declared.types.Basic.{Basic}
-use Rattle.cl_types.specs.declared.types.Basic.TheVariants.{Bool as BoolType, Int}
+use Rattle.cl_types.specs.declared.types.Basic.TheVariants.{Bool as BoolType}
 use Rattle.cl_types.specs.declared.types.CType.{CType}
 use Rattle.cl_types.specs.declared.types.CType.TheVariants as make
 use Rattle.cl_types.specs.declared.types.CType.TheViews.{out-CType}
 use Rattle.cl_types.specs.declared.types.Params.{Params}
 use Rattle.cl_types.specs.Compatible.{compatible, is_enum}
-use Rattle.cl_types.specs.Form.{Form, Form as f, form, place, unqualified}
+use Rattle.cl_types.specs.Form.{Form, Form as f, form, unqualified}
+use Rattle.cl_types.specs.Kinds.{arithmetic, is_integer_kind, stripped}
 use Rattle.cl_types.specs.Qualify.{qualifiers_of}
-
-abbrev pub without_atomic : Form CType Params → CType → CType
-without_atomic (f.Atomic t) _ = t
-without_atomic _ t = t
-
--- a type without its own qualifiers and `_Atomic`
-abbrev pub stripped : CType → CType
-stripped t = without_atomic (form (out-CType (unqualified t))) (unqualified t)
 
 abbrev pub decayed : Form CType Params → CType → CType
 decayed (f.Array t n) _ = make.Pointer t
@@ -38,22 +31,9 @@ target_in _ _ = None
 abbrev pub target : CType → Option CType
 target t = target_in (form (out-CType (stripped t))) (stripped t)
 
-abbrev pub arithmetic_in : Form CType Params → Option Basic
-arithmetic_in (f.Arithmetic k) = Some k
-arithmetic_in (f.Tag n w) = if is_enum w then Some Int else None
-arithmetic_in _ = None
-
--- the arithmetic type of an operand's value; an enumerated type counts as `int`
-abbrev pub arithmetic : CType → Option Basic
-arithmetic t = arithmetic_in (form (out-CType (stripped t)))
-
 abbrev pub is_arithmetic_kind : Option Basic → Bool
 is_arithmetic_kind None = false
 is_arithmetic_kind (Some k) = true
-
-abbrev pub is_integer_kind : Option Basic → Bool
-is_integer_kind None = false
-is_integer_kind (Some k) = nat_le (place k) 11
 
 abbrev pub is_arithmetic : CType → Bool
 is_arithmetic t = is_arithmetic_kind (arithmetic t)

@@ -6,13 +6,14 @@ use Rattle.cl_types.specs.declared.types.CType.{CType}
 use Rattle.cl_types.specs.declared.types.CType.TheVariants as make
 use Rattle.cl_types.specs.Compatible.{is_error}
 use Rattle.cl_types.specs.Form.{place}
-use Rattle.cl_conv.specs.declared.operands.Operand.{Operand}
-use Rattle.cl_conv.specs.declared.operators.BinaryOp.{BinaryOp}
-use Rattle.cl_conv.specs.declared.operators.BinaryOp.TheVariants as op
+use Rattle.cl_types.specs.declared.expressions.Operand.{Operand}
+use Rattle.cl_types.specs.declared.expressions.BinaryOp.{BinaryOp}
+use Rattle.cl_types.specs.declared.expressions.BinaryOp.TheVariants as op
 use Rattle.cl_conv.specs.declared.operators.Outcome.{Outcome}
 use Rattle.cl_conv.specs.declared.operators.Outcome.TheVariants as give
-use Rattle.cl_conv.specs.Operands.{arithmetic, is_arithmetic, is_array, is_const, is_function, is_integer, is_object_pointer, is_pointer, is_scalar, object_and_void, same_pointers, target, value_type}
-use Rattle.cl_conv.specs.Usual.{promoted, usual_basic}
+use Rattle.cl_conv.specs.Operands.{is_arithmetic, is_array, is_const, is_function, is_integer, is_object_pointer, is_pointer, is_scalar, object_and_void, same_pointers, target, value_type}
+use Rattle.cl_types.specs.Kinds.{arithmetic}
+use Rattle.cl_types.specs.Usual.{promoted, usual_basic}
 
 abbrev pub of_basic : Basic → CType
 of_basic basic_type.Bool = make.Bool

@@ -8,10 +8,11 @@ use Rattle.cl_types.specs.Compatible.{is_error}
 use Rattle.cl_types.specs.Composite.{composite}
 use Rattle.cl_types.specs.Form.{Form, Form as f, form, listed, unqualified}
 use Rattle.cl_types.specs.Qualify.{qualified, qualifiers_of}
-use Rattle.cl_conv.specs.declared.operands.Operand.{Operand}
-use Rattle.cl_conv.specs.declared.single.UnaryOp.{UnaryOp}
-use Rattle.cl_conv.specs.declared.single.UnaryOp.TheVariants as op
-use Rattle.cl_conv.specs.Operands.{is_arithmetic, is_bool, is_floating_type, is_function, is_integer, is_object_pointer, is_pointer, is_scalar, is_void, object_and_void, same_pointers, same_record, stripped, target, value_type}
+use Rattle.cl_types.specs.declared.expressions.Operand.{Operand}
+use Rattle.cl_types.specs.declared.expressions.UnaryOp.{UnaryOp}
+use Rattle.cl_types.specs.declared.expressions.UnaryOp.TheVariants as op
+use Rattle.cl_conv.specs.Operands.{is_arithmetic, is_bool, is_floating_type, is_function, is_integer, is_object_pointer, is_pointer, is_scalar, is_void, object_and_void, same_pointers, same_record, target, value_type}
+use Rattle.cl_types.specs.Kinds.{stripped}
 use Rattle.cl_conv.specs.Operators.{designated, is_place, promote, usual, value}
 
 -- what may be stepped: arithmetic or a pointer to an object, where it may be assigned to (6.5.2.4p1, 6.5.3.1p1)

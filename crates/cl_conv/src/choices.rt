@@ -7,13 +7,16 @@ ghost use Rattle.cl_conv.specs.Unary.{assignable, call, choice, given, pointer_c
 
 use crate::conversions::usual;
 use crate::operands::{
-    Operand, is_arithmetic, is_bool, is_pointer, is_scalar, is_void, object_and_void,
-    same_pointers, same_record, stripped, target, value_type,
+    is_arithmetic, is_bool, is_pointer, is_scalar, is_void, object_and_void, same_pointers,
+    same_record, target, value_type,
 };
 use crate::operators::value;
 use crate::single::{is_pointer_type, pointed};
 use cl_base::{Duplicate, Mem};
-use cl_types::{CType, Params, Shared, composite, is_error, qualified, qualifiers_of, unqualified};
+use cl_types::{
+    CType, Operand, Params, Shared, composite, is_error, qualified, qualifiers_of, stripped,
+    unqualified,
+};
 use std::alloc::Global;
 
 /// A pointer to the composite of what two pointers point to, with the qualifiers of both.

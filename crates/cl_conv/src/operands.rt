@@ -2,33 +2,13 @@
 
 ghost use Rattle.std.specs.Prelude.{◌≡◌, IfOk};
 ghost use Rattle.std.specs.Option.{option_copied};
-ghost use Rattle.cl_conv.specs.Operands.{alike, is_arithmetic, is_array, is_bool, is_const, is_function, is_integer, is_object_pointer, is_pointer, is_record, is_scalar, is_void, is_void_pointer, object_and_void, same_pointers, same_record, stripped, target, value_type};
+ghost use Rattle.cl_conv.specs.Operands.{alike, is_arithmetic, is_array, is_bool, is_const, is_function, is_integer, is_object_pointer, is_pointer, is_record, is_scalar, is_void, is_void_pointer, object_and_void, same_pointers, same_record, target, value_type};
 
-use crate::conversions::arithmetic;
 use cl_base::{Duplicate, Mem};
-use cl_types::{CType, Shared, compatible, is_enum, qualifiers_of, unqualified};
+use cl_types::{
+    CType, Shared, arithmetic, compatible, is_enum, qualifiers_of, stripped, unqualified,
+};
 use std::alloc::Global;
-
-/// An expression as an operand: its type, whether it is an lvalue (N1570 6.3.2.1), a bit-field, an object declared with
-/// `register`, and a null pointer constant (6.3.2.3p3).
-#[derive(Drop)]
-pub struct Operand {
-    pub ty: CType,
-    pub lvalue: bool,
-    pub bit_field: bool,
-    pub register: bool,
-    pub null: bool,
-}
-
-/// A type without its own qualifiers and `_Atomic`.
-pub fn stripped(t: &CType) -> &CType
-    ensures { result.now ≡ stripped t.now }
-{
-    match unqualified(t) {
-        CType::Atomic(within) => within.get(),
-        other => other,
-    }
-}
 
 /// The type of an operand's value: an array becomes a pointer to its element, a function a pointer to it, and any other type
 /// loses its qualifiers and `_Atomic` (6.3.2.1p2 to p4).

@@ -2,7 +2,7 @@
 
 ghost use Rattle.std.specs.Prelude.{◌≡◌, ◌&&◌, not, if◌then◌else◌, Some, None, IfOk};
 ghost use Rattle.std.specs.Option.{option_copied};
-ghost use Rattle.cl_conv.specs.declared.operators.BinaryOp.TheVariants as op;
+ghost use Rattle.cl_types.specs.declared.expressions.BinaryOp.TheVariants as op;
 ghost use Rattle.cl_conv.specs.declared.operators.Outcome.TheVariants as give;
 ghost use Rattle.cl_types.specs.declared.types.CType.TheVariants as make;
 ghost use Rattle.cl_conv.specs.Operands.{target, value_type};
@@ -10,48 +10,12 @@ ghost use Rattle.cl_conv.specs.Operators.{Operands, BothArithmetic, BothInteger,
 
 use crate::conversions::{promote, usual};
 use crate::operands::{
-    Operand, is_arithmetic, is_array, is_const, is_function, is_integer, is_object_pointer,
-    is_pointer, is_scalar, object_and_void, same_pointers, target, value_type,
+    is_arithmetic, is_array, is_const, is_function, is_integer, is_object_pointer, is_pointer,
+    is_scalar, object_and_void, same_pointers, target, value_type,
 };
 use cl_base::{Duplicate, Mem};
-use cl_types::{CType, is_error};
+use cl_types::{BinaryOp, CType, Operand, is_error};
 use std::alloc::Global;
-
-/// The operators between two operands that are no calls and no member accesses.
-#[derive(Clone, Copy)]
-pub enum BinaryOp {
-    Index,
-    Multiply,
-    Divide,
-    Remainder,
-    Add,
-    Subtract,
-    ShiftLeft,
-    ShiftRight,
-    Less,
-    Greater,
-    LessEqual,
-    GreaterEqual,
-    Equal,
-    NotEqual,
-    BitAnd,
-    BitXor,
-    BitOr,
-    LogicalAnd,
-    LogicalOr,
-    Assign,
-    AssignMultiply,
-    AssignDivide,
-    AssignRemainder,
-    AssignAdd,
-    AssignSubtract,
-    AssignShiftLeft,
-    AssignShiftRight,
-    AssignBitAnd,
-    AssignBitXor,
-    AssignBitOr,
-    Comma,
-}
 
 /// What a row of the table gives: by the usual arithmetic conversions, the promoted left type, the left or the right type,
 /// `int`, `long`, or what the left or the right operand points to.

@@ -9,28 +9,13 @@ ghost use Rattle.cl_conv.specs.Operands.{is_floating_type, is_pointer, is_scalar
 
 use crate::conversions::promote;
 use crate::operands::{
-    Operand, is_arithmetic, is_function, is_integer, is_object_pointer, is_pointer, is_scalar,
-    is_void, stripped, value_type,
+    is_arithmetic, is_function, is_integer, is_object_pointer, is_pointer, is_scalar, is_void,
+    value_type,
 };
 use crate::operators::{designated, is_place, value};
 use cl_base::{Duplicate, Mem};
-use cl_types::{CType, Shared, is_error};
+use cl_types::{CType, Operand, Shared, UnaryOp, is_error, stripped};
 use std::alloc::Global;
-
-/// The operators over one operand that are no casts and no `sizeof` or `_Alignof`.
-#[derive(Clone, Copy)]
-pub enum UnaryOp {
-    PostIncrement,
-    PostDecrement,
-    PreIncrement,
-    PreDecrement,
-    AddressOf,
-    Dereference,
-    Plus,
-    Minus,
-    Complement,
-    Not,
-}
 
 /// Whether an operand may be stepped by `++` and `--` (6.5.2.4p1, 6.5.3.1p1).
 fn may_step(a: &Operand) -> bool

@@ -9,7 +9,8 @@ use Rattle.cl_tree.specs.declared.nonterminal.Nonterminal.{Nonterminal}
 use Rattle.cl_tree.specs.declared.grammar.Terminal.{Terminal}
 use Rattle.cl_tree.specs.declared.grammar.Terminal.TheVariants as te
 use Rattle.cl_tree.specs.declared.grammar.Symbol.{Symbol}
-use Rattle.cl_tree.specs.declared.grammar.Symbol.TheVariants.{Token, Node}
+use Rattle.cl_tree.specs.declared.grammar.Symbol.TheVariants.{Token, Node, Entry}
+use Rattle.cl_tree.specs.declared.nonterminal.Nonterminal.TheVariants as nt
 use Rattle.cl_tree.specs.declared.grammar.Separator.{Separator}
 use Rattle.cl_tree.specs.declared.tree.Tree.{Tree}
 use Rattle.cl_tree.specs.declared.lexeme.Lexeme.{Lexeme}
@@ -77,6 +78,11 @@ same_terminal t u e = some_is (sym (numbered_terminal t) ∙ ap terminal_of e �
 abbrev symbol_eq : Symbol → Symbol → Bool
 symbol_eq (Token t a) (Token u b) = eqb (terminal_number t) (terminal_number u) && eqb (act_number a) (act_number b)
 symbol_eq (Token t a) (Node f) = false
+symbol_eq (Token t a) Entry = false
+symbol_eq (Node g) Entry = false
+symbol_eq Entry (Token u b) = false
+symbol_eq Entry (Node f) = false
+symbol_eq Entry Entry = true
 symbol_eq (Node g) (Token u b) = false
 symbol_eq (Node g) (Node f) = eqb (number g) (number f)
 
@@ -87,6 +93,11 @@ symbol_same (Token t a) (Token u b) e =
     let y : a ≡ b = same_act_is a b (eqb-true (act_number a) (act_number b) q.1) in
     (λ i. Token (x i) (y i))
 symbol_same (Token t a) (Node f) e = absurd (false≢true e)
+symbol_same (Token t a) Entry e = absurd (false≢true e)
+symbol_same (Node g) Entry e = absurd (false≢true e)
+symbol_same Entry (Token u b) e = absurd (false≢true e)
+symbol_same Entry (Node f) e = absurd (false≢true e)
+symbol_same Entry Entry e = refl
 symbol_same (Node g) (Token u b) e = absurd (false≢true e)
 symbol_same (Node g) (Node f) e = ap Node (same_goal_is g f (eqb-true (number g) (number f) e))
 
@@ -143,6 +154,7 @@ item_has i xs t = let o = some_of (λ j. item_eq j i) xs t in subst (Has xs) (it
 -- an edge is a next symbol of a production there
 abbrev takes_kind : Symbol → ℕ → Bool
 takes_kind (Token t a) y = false
+takes_kind Entry y = false
 takes_kind (Node g) y = kind_in y (kinds g) && not (is_some (shuns g))
 
 abbrev from_item : (Symbol → Bool) → Option Separator → Item → Item → Bool
@@ -154,6 +166,7 @@ spelled f b is j = some (from_item f b j) is
 abbrev back_by : Edge → List Item → Symbol → Option Ways → Bool
 back_by e is s None = every (spelled (λ x. symbol_eq x s) e.before is) (items e.next)
 back_by e is (Token t a) (Some w) = false
+back_by e is Entry (Some w) = false
 back_by e is (Node m) (Some w) = every (λ y. every (spelled (λ x. takes_kind x y) e.before is) (items (turned (Some w) e.next (is_named y)))) (kinds m)
 
 abbrev c_back : ℕ → Bool
@@ -167,7 +180,9 @@ places_back = refl
 abbrev forth_by : ℕ → Next → Edge → Symbol → Symbol → Option Ways → Bool
 forth_by n x e s t None = symbol_eq s t && has_item (item n x.behind) (items e.next)
 forth_by n x e (Token k a) t (Some w) = false
+forth_by n x e Entry t (Some w) = false
 forth_by n x e (Node g) (Token k a) (Some w) = false
+forth_by n x e (Node g) Entry (Some w) = false
 forth_by n x e (Node g) (Node m) (Some w) = not (is_some (shuns m)) && every (λ y. kind_in y (kinds m) && has_item (item n x.behind) (items (turned (Some w) e.next (is_named y)))) (kinds g)
 
 abbrev forth_edge : ℕ → Next → Edge → Bool
@@ -328,6 +343,7 @@ record Back (q : ℕ) (e : Edge) (y : ℕ) (j : Item) : Type 0 where
 
 takes_kind_use : (x : Symbol) (y : ℕ) → takes_kind x y ≡ true → (g : Nonterminal) × (x ≡ Node g) × Has (kinds g) y × (shuns g ≡ None)
 takes_kind_use (Token t a) y e = absurd (false≢true e)
+takes_kind_use Entry y e = absurd (false≢true e)
 takes_kind_use (Node g) y e = let q = and_parts (kind_in y (kinds g)) (not (is_some (shuns g))) e in (g, refl, kind_has y (kinds g) q.0, none_is (shuns g) q.1)
 
 back_of : (q : ℕ) (e : Edge) (y : ℕ) → Has (edges q) e → Way e.symbol y → (j : Item) → Has (items (turn e.next y)) j → Back q e y j
@@ -351,6 +367,7 @@ back_of q e y has way j there = go e.symbol refl (turning e.next) (every_has (λ
         made (λ x. symbol_eq x s) (spelled_use (λ x. symbol_eq x s) e.before (items q) j (every_has (spelled (λ x. symbol_eq x s) e.before (items q)) (items e.next) t j h))
         (λ x p. inl (symbol_same x s p ∙ sym is))
     go (Token k a) is (Some w) t way h = absurd (false≢true t)
+    go Entry is (Some w) t way h = absurd (false≢true t)
     go (Node m) is (Some w) t way h =
         let u = every_has (λ v. every (spelled (λ x. takes_kind x v) e.before (items q)) (items (turned (Some w) e.next (is_named v)))) (kinds m) t y way in
         made (λ x. takes_kind x y)
@@ -442,10 +459,13 @@ home_first z i has = elim (either z) [
 ]
 
 -- from places to productions
-module _ (cs : List Lexeme) (h : ℕ) (f : (g : Nonterminal) (z : ℕ) (sa : Scope) (t : Tree) (sw : Scope) → At cs h g z sa t sw → Derived cs h g sa t sw) where
+module _ (cs : List Lexeme) (h : ℕ) (f : (g : Nonterminal) (z : ℕ) (sa : Scope) (t : Tree) (sw : Scope) → At cs h g z sa t sw → Derived cs h g sa t sw)
+    (b : (g : Nonterminal) (sa : Scope) (t : Tree) (sw : Scope) → Derived cs h g sa t sw → (z : ℕ) × At cs h g z sa t sw) where
   same_reads : (s : Symbol) (y : ℕ) (sa : Scope) (at : ℕ) (t : Tree) (sw : Scope) → p.Reads (At cs h) h cs s y sa at t sw → d.Reads (Derived cs h) h cs s sa at t sw
   same_reads (Token k a) y sa at t sw r = (r.1, r.2, r.3, r.4, r.5)
   same_reads (Node g) y sa at t sw r = (f g y sa t sw r.0, r.1)
+  same_reads Entry y sa at t sw (inl r) = inl (f nt.BlockItem y sa t sw r.0, r.1)
+  same_reads Entry y sa at t sw (inr r) = inr (r.1, r.2, r.3, r.4, λ u v d e. (let o = b nt.BlockItem sa u v d in r.5 u o.0 v o.1 e))
 
   fit_reads : (x s : Symbol) (y : ℕ) → Narrower x s y → (sa : Scope) (at : ℕ) (t : Tree) (sw : Scope) → p.Reads (At cs h) h cs s y sa at t sw → d.Reads (Derived cs h) h cs x sa at t sw
   fit_reads x s y (inl e) sa at t sw r = subst (λ (v : Symbol). d.Reads (Derived cs h) h cs v sa at t sw) (sym e) (same_reads s y sa at t sw r)
@@ -456,7 +476,7 @@ module _ (cs : List Lexeme) (h : ℕ) (f : (g : Nonterminal) (z : ℕ) (sa : Sco
 
   after_reads : (b : Option Separator) (x s : Symbol) (y : ℕ) → Narrower x s y → (sa : Scope) (at : ℕ) (t : Tree) (sw : Scope) → p.ReadsAfter (At cs h) h cs b s y sa at t sw → d.ReadsAfter (Derived cs h) h cs b x sa at t sw
   after_reads None x s y n sa at t sw r = fit_reads x s y n sa at t sw r
-  after_reads (Some b) x s y n sa at t sw r = (r.0, fit_reads x s y n (pass cs sa b.act at) (at + 1) t sw r.1)
+  after_reads (Some o) x s y n sa at t sw r = (r.0, fit_reads x s y n (pass cs sa o.act at) (at + 1) t sw r.1)
 
   follow : (ps : List Tree) (q : ℕ) (sa : Scope) (at to z : ℕ) (sw : Scope) → Path (At cs h) h cs q sa at to ps z sw → (j : Item) → Has (items z) j → (r : Production) → slice_get productions j.production ≡ Some r
       → left_out (drop j.behind r.parts) ≡ true → (b : ℕ) × Has (items q) (item j.production b) × d.Follows (Derived cs h) h cs r b sa at to ps sw
@@ -466,23 +486,27 @@ module _ (cs : List Lexeme) (h : ℕ) (f : (g : Nonterminal) (z : ℕ) (sa : Sco
       let y = path.1 in
       let rest = follow ps (turn e.next y) path.2 (end t) to z sw path.5 j has r is out in
       let way = way_of cs h e.before e.symbol y sa at t path.2 path.4 in
-      let b = back_of q e y path.3 way (item j.production rest.0) rest.1 in
-      let here : slice_get productions b.item_there.production ≡ Some r = ap (slice_get productions) b.same ∙ is in
-      let can : Has (nexts r b.item_there.behind) b.next_there = subst (λ (v : Option Production). Has (nexts_by v b.item_there.behind) b.next_there) here b.nexts_have in
-      let reads = subst (λ (v : Option Separator). d.ReadsAfter (Derived cs h) h cs v b.next_there.symbol sa at t path.2) (sym b.before_is)
-      (after_reads e.before b.next_there.symbol e.symbol y b.fits sa at t path.2 path.4) in (
-        b.item_there.behind,
-        subst (λ (n : ℕ). Has (items q) (item n b.item_there.behind)) b.same b.has,
-        (b.next_there, path.2, can, reads, subst (λ (n : ℕ). d.Follows (Derived cs h) h cs r n path.2 (end t) to ps sw) (sym b.behind_is) rest.2),
+      let o = back_of q e y path.3 way (item j.production rest.0) rest.1 in
+      let here : slice_get productions o.item_there.production ≡ Some r = ap (slice_get productions) o.same ∙ is in
+      let can : Has (nexts r o.item_there.behind) o.next_there = subst (λ (v : Option Production). Has (nexts_by v o.item_there.behind) o.next_there) here o.nexts_have in
+      let reads = subst (λ (v : Option Separator). d.ReadsAfter (Derived cs h) h cs v o.next_there.symbol sa at t path.2) (sym o.before_is)
+      (after_reads e.before o.next_there.symbol e.symbol y o.fits sa at t path.2 path.4) in (
+        o.item_there.behind,
+        subst (λ (n : ℕ). Has (items q) (item n o.item_there.behind)) o.same o.has,
+        (o.next_there, path.2, can, reads, subst (λ (n : ℕ). d.Follows (Derived cs h) h cs r n path.2 (end t) to ps sw) (sym o.behind_is) rest.2),
       )
 
-pub derived_of : (cs : List Lexeme) (h : ℕ) (g : Nonterminal) (z : ℕ) (sa : Scope) (t : Tree) (sw : Scope) → At cs h g z sa t sw → Derived cs h g sa t sw
+-- each view from the other, with a bound
+record Both (cs : List Lexeme) (h : ℕ) : Type 0 where
+  to : (g : Nonterminal) (z : ℕ) (sa : Scope) (t : Tree) (sw : Scope) → At cs h g z sa t sw → Derived cs h g sa t sw
+  back : (g : Nonterminal) (sa : Scope) (t : Tree) (sw : Scope) → Derived cs h g sa t sw → (z : ℕ) × At cs h g z sa t sw
+
+derived_step : (cs : List Lexeme) (h : ℕ) → Both cs h → (g : Nonterminal) (z : ℕ) (sa : Scope) (t : Tree) (sw : Scope) → At cs (suc h) g z sa t sw → Derived cs (suc h) g sa t sw
 unfolding Derived
-derived_of cs zero g z sa t sw a = absurd (kind_flat cs z sa t sw a.1)
-derived_of cs (suc h) g z sa t sw a =
+derived_step cs h r g z sa t sw a =
     let k = kind_of cs h z sa t sw a.1 in
     let o = production_of g z a.0 in
-    let fl = follow cs h (λ g' z' sa' t' sw' a'. derived_of cs h g' z' sa' t' sw' a') (parts t) (home z) sa (start t) (end t) z k.state k.path o.item_there o.has o.made o.is o.out in
+    let fl = follow cs h r.to r.back (parts t) (home z) sa (start t) (end t) z k.state k.path o.item_there o.has o.made o.is o.out in
     let none : fl.0 ≡ 0 = home_first z (item o.item_there.production fl.0) fl.1 in
     let label : name t ≡ record { rule = o.made.rule; choice = o.made.choice } = some_is (sym k.ended.0 ∙ o.label_is) in (
       o.made,
@@ -516,7 +540,9 @@ forth_to n x e s t xs et None c y w =
     let q = and_parts (symbol_eq s t) (has_item (item n x.behind) (items e.next)) c in
     (item_has (item n x.behind) (items e.next) q.1, inl (xs ∙ symbol_same s t q.0 ∙ sym et))
 forth_to n x e (Token k a) t xs et (Some w) c y way = absurd (false≢true c)
+forth_to n x e Entry t xs et (Some w) c y way = absurd (false≢true c)
 forth_to n x e (Node g) (Token k a) xs et (Some w) c y way = absurd (false≢true c)
+forth_to n x e (Node g) Entry xs et (Some w) c y way = absurd (false≢true c)
 forth_to n x e (Node g) (Node m) xs et (Some w) c y way =
     let o = and_parts (not (is_some (shuns m))) _ c in
     let u = every_has (λ v. kind_in v (kinds m) && has_item (item n x.behind) (items (turned (Some w) e.next (is_named v)))) (kinds g) o.1 y way in
@@ -545,10 +571,13 @@ record Through (D : Nonterminal → ℕ → Scope → Tree → Scope → Type 0)
   out : left_out (drop behind r.parts) ≡ true
   home_is : home last ≡ home q
 
-module _ (cs : List Lexeme) (h : ℕ) (f : (g : Nonterminal) (sa : Scope) (t : Tree) (sw : Scope) → Derived cs h g sa t sw → (z : ℕ) × At cs h g z sa t sw) where
+module _ (cs : List Lexeme) (h : ℕ) (b : (g : Nonterminal) (z : ℕ) (sa : Scope) (t : Tree) (sw : Scope) → At cs h g z sa t sw → Derived cs h g sa t sw)
+    (f : (g : Nonterminal) (sa : Scope) (t : Tree) (sw : Scope) → Derived cs h g sa t sw → (z : ℕ) × At cs h g z sa t sw) where
   reads_back : (x : Symbol) (sa : Scope) (at : ℕ) (t : Tree) (sw : Scope) → d.Reads (Derived cs h) h cs x sa at t sw → (y : ℕ) × Way x y × p.Reads (At cs h) h cs x y sa at t sw
   reads_back (Token k a) sa at t sw r = (0, refl, (refl, r.0, r.1, r.2, r.3, r.4))
   reads_back (Node g) sa at t sw r = (let o = f g sa t sw r.0 in (o.0, o.1.0, (o.1, r.1)))
+  reads_back Entry sa at t sw (inl r) = (let o = f nt.BlockItem sa t sw r.0 in (o.0, tt, inl (o.1, r.1)))
+  reads_back Entry sa at t sw (inr r) = (0, tt, inr (refl, r.0, r.1, r.2, r.3, λ u z v a e. r.4 u v (b nt.BlockItem z sa u v a) e))
 
   wide_reads : (x s : Symbol) (y : ℕ) → Wider x s y → (sa : Scope) (at : ℕ) (t : Tree) (sw : Scope) → p.Reads (At cs h) h cs x y sa at t sw → p.Reads (At cs h) h cs s y sa at t sw
   wide_reads x s y (inl e) sa at t sw r = subst (λ (v : Symbol). p.Reads (At cs h) h cs v y sa at t sw) e r
@@ -625,23 +654,22 @@ own_kind z n b r has is e =
     let t = when_use (ends_item (item n b)) _ (every_has (λ v. when (ends_item v) (of_by z (slice_get productions v.production))) (items z) (in_items c_of places_of z (item n b) has) (item n b) has) e in
     kind_has z (kinds r.of) (subst (λ (v : Option Production). of_by z v ≡ true) is t)
 
-pub kind_of_derived : (cs : List Lexeme) (h : ℕ) (g : Nonterminal) (sa : Scope) (t : Tree) (sw : Scope) → Derived cs h g sa t sw → (z : ℕ) × At cs h g z sa t sw
+kind_step : (cs : List Lexeme) (h : ℕ) → Both cs h → (g : Nonterminal) (sa : Scope) (t : Tree) (sw : Scope) → Derived cs (suc h) g sa t sw → (z : ℕ) × At cs (suc h) g z sa t sw
 unfolding Derived
-kind_of_derived cs zero g sa t sw a = absurd a
-kind_of_derived cs (suc h) g sa t sw a =
-    let r = a.0 in
+kind_step cs h r g sa t sw a =
+    let p = a.0 in
     let n = a.1.0 in
     let is = a.1.1 in
-    let s = starting n r is in
-    let w = path_of cs h (λ g' sa' t' sw' a'. kind_of_derived cs h g' sa' t' sw' a') r n is (parts t) 0 s.first sa (start t) (end t) a.4.2 s.has a.4.3 in
+    let s = starting n p is in
+    let w = path_of cs h r.to r.back p n is (parts t) 0 s.first sa (start t) (end t) a.4.2 s.has a.4.3 in
     let z = w.last in
     let ends : ends_item (item n w.behind) ≡ true = subst (λ (v : Option Production). ends_by v w.behind ≡ true) (sym is) w.out in
-    let l = label_at z (item n w.behind) r w.has is ends in
+    let l = label_at z (item n w.behind) p w.has is ends in
     let home_is : s.first ≡ home z = sym (w.home_is ∙ s.home_is) in
-    let label : record { rule = r.rule; choice = r.choice } ≡ name t = (let x = sym a.4.0 in let y = sym a.4.1 in (λ i. record { rule = x i; choice = y i })) in (
+    let label : record { rule = p.rule; choice = p.choice } ≡ name t = (let x = sym a.4.0 in let y = sym a.4.1 in (λ i. record { rule = x i; choice = y i })) in (
       z,
       (
-        kinds_have g r.of a.2 z (own_kind z n w.behind r w.has is ends),
+        kinds_have g p.of a.2 z (own_kind z n w.behind p w.has is ends),
         of_kind cs h z sa t sw a.4.2 (subst (λ (b : Bool). sw ≡ leave b sa a.4.2) (sym l.2) a.4.5)
             (l.0 ∙ ap Some label, λ c token bar. a.4.4 c token (subst (λ (v : List Class). Has v c) l.1 bar))
             (subst (λ (v : ℕ). Path (At cs h) h cs v sa (start t) (end t) (parts t) z a.4.2) home_is w.path),
@@ -649,9 +677,17 @@ kind_of_derived cs (suc h) g sa t sw a =
       ),
     )
 
+derived_flat : (cs : List Lexeme) (g : Nonterminal) (sa : Scope) (t : Tree) (sw : Scope) → Derived cs 0 g sa t sw → ⊥
+unfolding Derived
+derived_flat cs g sa t sw a = a
+
+both : (cs : List Lexeme) (h : ℕ) → Both cs h
+both cs zero = record { to = λ g z sa t sw a. absurd (kind_flat cs z sa t sw a.1); back = λ g sa t sw a. absurd (derived_flat cs g sa t sw a) }
+both cs (suc h) = let r = both cs h in record { to = λ g z sa t sw a. derived_step cs h r g z sa t sw a; back = λ g sa t sw a. kind_step cs h r g sa t sw a }
+
 -- the two views of a whole tree
 pub to_derives : (g : Nonterminal) (cs : List Lexeme) (sa : Scope) (first : ℕ) (t : Tree) (sw : Scope) → Whole g cs sa first t sw → SpansFrom g cs sa first t sw
-to_derives g cs sa first t sw w = record { derived = derived_of cs 512 g w.kind sa t sw w.at; from = w.from; to = w.to }
+to_derives g cs sa first t sw w = record { derived = (both cs 512).to g w.kind sa t sw w.at; from = w.from; to = w.to }
 
 pub of_derives : (g : Nonterminal) (cs : List Lexeme) (sa : Scope) (first : ℕ) (t : Tree) (sw : Scope) → SpansFrom g cs sa first t sw → Whole g cs sa first t sw
-of_derives g cs sa first t sw w = let o = kind_of_derived cs 512 g sa t sw w.derived in record { kind = o.0; at = o.1; from = w.from; to = w.to }
+of_derives g cs sa first t sw w = let o = (both cs 512).back g sa t sw w.derived in record { kind = o.0; at = o.1; from = w.from; to = w.to }

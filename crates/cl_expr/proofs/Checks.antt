@@ -47,6 +47,14 @@ pub not_use : (b : Bool) → not b ≡ true → b ≡ true → ⊥
 not_use true n e = false≢true n
 not_use false n e = false≢true e
 
+pub not_false : (b : Bool) → not b ≡ true → b ≡ false
+not_false true n = absurd (false≢true n)
+not_false false n = refl
+
+pub not_true : (b : Bool) → not b ≡ false → b ≡ true
+not_true true n = refl
+not_true false n = absurd (false≢true (sym n))
+
 pub some_true : {X : Type 0} (o : Option X) (x : X) → o ≡ Some x → is_some o ≡ true
 some_true None x e = absurd (none_not e)
 some_true (Some y) x e = refl

@@ -15,13 +15,13 @@ use Rattle.cl_tree.specs.declared.scope.Scope.{Scope}
 use Rattle.cl_tree.specs.Scopes.{class_at, leave}
 use Rattle.cl_expr.proofs.Bars.{all_open}
 use Rattle.cl_expr.proofs.Within.{class_within}
-use Rattle.cl_expr.specs.code.Table.{name_of, scoped, turn, home, corner, kinds, openers, suffixes, ends}
+use Rattle.cl_expr.specs.code.Table.{name_of, scoped, flat, turn, home, corner, kinds, openers, suffixes, ends}
 use Rattle.cl_tree.specs.Derives.{Has, start, end, parts, Opened}
 use Rattle.cl_expr.specs.code.Paths.{name, node, Ended, ReadsAfter, Path, Kind, At, Whole}
 use Rattle.cl_expr.specs.code.Parses.{Enters, Stops, Halts, Gives, Sound, Parses, Half, Builds, Opens, GoesOn, Continues, Steps, Spine, here, next, Climbs}
 use Rattle.cl_expr.proofs.Checks.{some_is}
-use Rattle.cl_expr.proofs.Conditions.{Way, on, no_name, Cornered, cornered, left_halts, top, Reaches, reach, reach_left, one_opener, opener, suffix, Goes, one_suffix, goes_suffix, left_open, cornered_unscoped, scoped_ends}
-use Rattle.cl_expr.proofs.Heights.{kind_le, kind_tall, kind_of, kind_flat, path_enters, path_le, First, node_is}
+use Rattle.cl_expr.proofs.Conditions.{Way, on, no_name, Cornered, cornered, left_halts, top, Reaches, reach, reach_left, one_opener, opener, suffix, Goes, one_suffix, goes_suffix, left_open, cornered_unscoped, scoped_ends, left_flat, flat_kind, flat_edge}
+use Rattle.cl_expr.proofs.Heights.{kind_fit, kind_tall, tall_le, all_tall_le, kind_of, kind_flat, path_enters, path_fit, path_tall, First, node_is}
 
 none_not : {X : Type 0} {x : X} → None ≡ Some x → ⊥
 none_not e = cc
@@ -52,7 +52,8 @@ nothing_flat cs sa g at = record { found = tt; only = λ t z w a e s. absurd (ki
 module _ (cs : List Lexeme) (h : ℕ) (sa : Scope) (g : Nonterminal) (at : ℕ) where
   pub half_start : (s : ℕ) → Has (openers g) s → at ≤ length cs → Half cs h sa sa s [] at at 0
   half_start s has within = (let o = opener g s has in record {
-    joins = λ n to rest z sv le p. subst (λ (v : ℕ). Path (At cs n) n cs v sa at to rest z sv) (sym o.0) p;
+    joins = λ to rest z sv p. subst (λ (v : ℕ). Path (At cs h) h cs v sa at to rest z sv) (sym o.0) p;
+    tall = tt;
     least = λ k a. omega arith;
     plain = o.1;
     within = within;
@@ -118,21 +119,34 @@ pub record Corner (cs : List Lexeme) (h : ℕ) (sa : Scope) (g : Nonterminal) (t
   pub halts : Halts cs state (home place) (end first)
   pub spine : Spine cs h sa g first place state t z w
 
-continues_le : (cs : List Lexeme) (h k : ℕ) (sa : Scope) (a : Tree) (y : ℕ) (sb : Scope) (t : Tree) (z : ℕ) (w : Scope) → h ≤ k → Continues cs h sa a y sb t z w → Continues cs k sa a y sb t z w
-continues_le cs h k sa a y sb t z w le c = record {
+-- before a node of a production that holds no block, none is held either
+flat_head : (cs : List Lexeme) (h : ℕ) (sa : Scope) (g : Nonterminal) {a : Tree} {y : ℕ} {sb : Scope} {t : Tree} {z : ℕ} {w : Scope} → Spine cs h sa g a y sb t z w → flat (home z) ≡ true → flat (home y) ≡ true
+flat_head cs h sa g here is = is
+flat_head cs h sa g (next {y = y} {x = x} has c s more) is = flat_kind c.cornered.goal y (left_flat (home x) c.cornered c.is) c.takes.0
+
+flat_next : (s : ℕ) (c : Head) → corner s ≡ Some c → flat s ≡ true → flat c.next ≡ true
+flat_next s c is f =
+    let facts = cornered s c is in
+    let e = facts.some_edge in
+    let place : turn e.0.next 0 ≡ c.next = ap (λ (v : ℕ). turn v 0) e.3 ∙ facts.turn 0 in
+    subst (λ (v : ℕ). flat v ≡ true) place (flat_edge s e.0 0 f e.1).1
+
+continues_le : (cs : List Lexeme) (h k : ℕ) (sa : Scope) (a : Tree) (y : ℕ) (sb : Scope) (t : Tree) (z : ℕ) (w : Scope) → h ≤ k → flat (home z) ≡ true → Continues cs h sa a y sb t z w → Continues cs k sa a y sb t z w
+continues_le cs h k sa a y sb t z w le is c = record {
   cornered = c.cornered;
   is = c.is;
-  takes = (c.takes.0, kind_le cs h k y sa a sb le c.takes.1, c.takes.2);
+  takes = (c.takes.0, kind_fit cs h k y sa a sb (flat_kind c.cornered.goal y (left_flat (home z) c.cornered c.is) c.takes.0) (tall_le h k a le (kind_tall cs h y sa a sb c.takes.1)) c.takes.1, c.takes.2);
   from = c.from;
   rest = c.rest;
   parts_are = c.parts_are;
-  path = path_le cs h k le c.rest c.cornered.next sb (end a) (end t) z w c.path;
+  path = path_fit cs h k c.rest c.cornered.next sb (end a) (end t) z w (flat_next (home z) c.cornered c.is is)
+      (all_tall_le h k c.rest le (path_tall cs h c.rest c.cornered.next sb (end a) (end t) z w c.path)) c.path;
   ended = c.ended;
 }
 
-spine_le : (cs : List Lexeme) (h k : ℕ) (sa : Scope) (g : Nonterminal) {a : Tree} {y : ℕ} {sb : Scope} {t : Tree} {z : ℕ} {w : Scope} → h ≤ k → Spine cs h sa g a y sb t z w → Spine cs k sa g a y sb t z w
-spine_le cs h k sa g le here = here
-spine_le cs h k sa g le (next has c s more) = next has (continues_le cs h k sa _ _ _ _ _ _ le c) s (spine_le cs h k sa g le more)
+spine_le : (cs : List Lexeme) (h k : ℕ) (sa : Scope) (g : Nonterminal) {a : Tree} {y : ℕ} {sb : Scope} {t : Tree} {z : ℕ} {w : Scope} → h ≤ k → flat (home z) ≡ true → Spine cs h sa g a y sb t z w → Spine cs k sa g a y sb t z w
+spine_le cs h k sa g le is here = here
+spine_le cs h k sa g le is (next has c s more) = next has (continues_le cs h k sa _ _ _ _ _ _ le (flat_head cs h sa g more is) c) s (spine_le cs h k sa g le is more)
 
 spine_up : (cs : List Lexeme) (h : ℕ) (sa : Scope) (g : Nonterminal) {a : Tree} {y : ℕ} {sb : Scope} {p : Tree} {x : ℕ} {sx : Scope} {t : Tree} {z : ℕ} {w : Scope} → Spine cs h sa g a y sb p x sx
     → Has (suffixes g) (home z) → Continues cs h sa p x sx t z w → Halts cs w (home z) (end t) → Spine cs h sa g a y sb t z w
@@ -205,15 +219,17 @@ corner_of cs (suc h) sa g t z w a (inr x) s =
     let n = d.continues in
     let below : Corner cs h sa g d.left d.place d.state = corner_of cs h sa g d.left d.place d.state n.takes.1
     (reach_left g (home z) n.cornered d.place x n.is n.takes.0) (left_halts_at cs (suc h) sa d.left d.place d.state t z w n) in
+    let is : flat (home d.place) ≡ true = flat_kind n.cornered.goal d.place (left_flat (home z) n.cornered n.is) n.takes.0 in
     record {
       first = below.first;
       place = below.place;
       state = below.state;
-      kind = kind_le cs (suc h) (suc (suc h)) below.place sa below.first below.state (omega arith) below.kind;
+      kind = kind_fit cs (suc h) (suc (suc h)) below.place sa below.first below.state (flat_head cs h sa g below.spine is)
+          (tall_le (suc h) (suc (suc h)) below.first (omega arith) (kind_tall cs (suc h) below.place sa below.first below.state below.kind)) below.kind;
       opener = below.opener;
       from = below.from ∙ n.from;
       halts = below.halts;
-      spine = spine_up cs (suc h) sa g (spine_le cs h (suc h) sa g (omega arith) below.spine) x n s;
+      spine = spine_up cs (suc h) sa g (spine_le cs h (suc h) sa g (omega arith) is below.spine) x n s;
     }
 
 -- so far the tree is sound, and each whole tree goes on from it
@@ -326,17 +342,20 @@ module _ (cs : List Lexeme) (h : ℕ) (sa : Scope) (s : ℕ) (left : Found) (sou
 
     pub half_step : left.height ≤ h → Half cs h sa left.scope c.next (left.tree ∷ []) (start left.tree) (end left.tree) left.height
     half_step low = record {
-      joins = λ n to rest z sv le p. (
+      joins = λ to rest z sv p. (
           let e = facts.some_edge in
-          let reads : ReadsAfter (At cs n) n cs None (Node c.goal) left.place sa (start left.tree) left.tree left.scope
-          = ((takes, kind_le cs left.height n left.place sa left.tree left.scope le sound.kind, all_open cs c.goal sa (start left.tree) (left_open s c is)), refl) in
+          let fits : Kind cs h left.place sa left.tree left.scope
+          = kind_fit cs (suc h) h left.place sa left.tree left.scope (flat_kind c.goal left.place (left_flat s c is) takes) (tall_le left.height h left.tree low sound.tall) sound.kind in
+          let reads : ReadsAfter (At cs h) h cs None (Node c.goal) left.place sa (start left.tree) left.tree left.scope
+          = ((takes, fits, all_open cs c.goal sa (start left.tree) (left_open s c is)), refl) in
           let place : turn e.0.next left.place ≡ c.next = ap (λ (v : ℕ). turn v left.place) e.3 ∙ facts.turn left.place in
-          let reads' : ReadsAfter (At cs n) n cs e.0.before e.0.symbol left.place sa (start left.tree) left.tree left.scope
-          = subst (λ (b : Option Separator). ReadsAfter (At cs n) n cs b e.0.symbol left.place sa (start left.tree) left.tree left.scope) (sym e.4)
-          (subst (λ (v : Symbol). ReadsAfter (At cs n) n cs None v left.place sa (start left.tree) left.tree left.scope) (sym e.2) reads) in
-          let path : Path (At cs n) n cs s sa (start left.tree) to (left.tree ∷ rest) z sv
-          = (e.0, left.place, left.scope, e.1, reads', subst (λ (v : ℕ). Path (At cs n) n cs v left.scope (end left.tree) to rest z sv) (sym place) p) in
-          subst (λ (v : ℕ). Path (At cs n) n cs v sa (start left.tree) to (left.tree ∷ rest) z sv) (sym (facts.home ∙ home_is)) path);
+          let reads' : ReadsAfter (At cs h) h cs e.0.before e.0.symbol left.place sa (start left.tree) left.tree left.scope
+          = subst (λ (b : Option Separator). ReadsAfter (At cs h) h cs b e.0.symbol left.place sa (start left.tree) left.tree left.scope) (sym e.4)
+          (subst (λ (v : Symbol). ReadsAfter (At cs h) h cs None v left.place sa (start left.tree) left.tree left.scope) (sym e.2) reads) in
+          let path : Path (At cs h) h cs s sa (start left.tree) to (left.tree ∷ rest) z sv
+          = (e.0, left.place, left.scope, e.1, reads', subst (λ (v : ℕ). Path (At cs h) h cs v left.scope (end left.tree) to rest z sv) (sym place) p) in
+          subst (λ (v : ℕ). Path (At cs h) h cs v sa (start left.tree) to (left.tree ∷ rest) z sv) (sym (facts.home ∙ home_is)) path);
+      tall = (sound.tall, tt);
       least = λ k a. sound.least k a.0;
       plain = facts.plain;
       within = sound.within;
@@ -412,7 +431,7 @@ module _ (cs : List Lexeme) (h : ℕ) (sa : Scope) (g : Nonterminal) (at : ℕ) 
 
 -- the whole answer
 pub whole_found : (cs : List Lexeme) (sa : Scope) (g : Nonterminal) (first : ℕ) (f : Found) → Parses cs 512 sa g first (Some f) → end f.tree ≡ length cs → Whole g cs sa first f.tree f.scope
-whole_found cs sa g first f p e = let o = p.found in record { kind = f.place; at = (o.1, kind_le cs f.height 512 f.place sa f.tree f.scope o.0.high o.0.kind, subst (λ (i : ℕ). Opened cs g sa i) (sym o.2) o.3); from = o.2; to = e }
+whole_found cs sa g first f p e = let o = p.found in record { kind = f.place; at = (o.1, o.0.kind, subst (λ (i : ℕ). Opened cs g sa i) (sym o.2) o.3); from = o.2; to = e }
 
 pub whole_only : (cs : List Lexeme) (sa : Scope) (g : Nonterminal) (first : ℕ) (r : Option Found) (t : Tree) (w : Scope) → Parses cs 512 sa g first r → Whole g cs sa first t w → (z : ℕ) × Gives r t z w
 whole_only cs sa g first r t w p d =

@@ -6,17 +6,19 @@ use Rattle.std.proofs.lemmas.Bool.{eqb-true, and_parts, or_cases, false≢true}
 use Rattle.cl_tree.specs.declared.class.Class.{Class}
 use Rattle.cl_tree.specs.declared.nonterminal.Nonterminal.{Nonterminal}
 use Rattle.cl_tree.specs.declared.grammar.Symbol.{Symbol}
-use Rattle.cl_tree.specs.declared.grammar.Symbol.TheVariants.{Token, Node}
+use Rattle.cl_tree.specs.declared.grammar.Symbol.TheVariants.{Token, Node, Entry}
+use Rattle.cl_tree.specs.declared.class.Class.TheVariants as cl
+use Rattle.cl_tree.specs.declared.nonterminal.Nonterminal.TheVariants as nt
 use Rattle.cl_tree.specs.declared.grammar.Separator.{Separator}
 use Rattle.cl_expr.specs.declared.table.Edge.{Edge}
 use Rattle.cl_expr.specs.declared.table.Head.{Head}
 use Rattle.cl_expr.specs.declared.table.Ways.{Ways}
 use Rattle.cl_expr.specs.declared.table.Label.{Label}
-use Rattle.cl_expr.specs.code.Table.{Place, places, nowhere, place, goal, goals, number, edges, name_of, bars, scoped, is_named, turning, turned, turn, home, corner, kinds, openers, suffixes, firsts, ends, goes}
+use Rattle.cl_expr.specs.code.Table.{Place, places, nowhere, place, goal, goals, number, edges, name_of, bars, scoped, flat, flat_goal, is_named, turning, turned, turn, home, corner, kinds, openers, suffixes, firsts, ends, goes, entry_classes}
 use Rattle.cl_tree.specs.Derives.{Has, barred}
 use Rattle.cl_expr.specs.code.Parses.{BeginsSymbol, Begins, Enters}
 use Rattle.cl_tree.specs.Grammar.{takes, shuns}
-use Rattle.cl_expr.proofs.All.{all_goals, numbered_goal, class_number, same_class_is, same_goal_is}
+use Rattle.cl_expr.proofs.All.{all_goals, numbered_goal, all_classes, numbered_class, class_number, same_class_is, same_goal_is}
 use Rattle.cl_expr.proofs.Checks.{every, some, pairwise, member, when, is_some, on_some, when_use, not_use, some_true, none_is, none_true, none_not, on_some_use, some_is, every_has, some_at, pairwise_one, has_member, member_left, member_right, member_has, every_member}
 
 abbrev among : Class → List Class → Bool
@@ -35,6 +37,7 @@ kind_in z zs = member place_number z zs
 abbrev beginners_symbol : Symbol → List Class
 beginners_symbol (Token c a) = takes c
 beginners_symbol (Node g) = firsts g
+beginners_symbol Entry = entry_classes
 
 abbrev beginners : Option Separator → Symbol → List Class
 beginners None x = beginners_symbol x
@@ -50,6 +53,7 @@ entering q = beginners_of (edges q)
 abbrev goes_of : Symbol → List Class
 goes_of (Token c a) = []
 goes_of (Node g) = goes g
+goes_of Entry = []
 
 abbrev apart : List Class → List Class → Bool
 apart xs ys = every (λ k. not (among k ys)) xs
@@ -72,10 +76,12 @@ steps f q = every (λ e. after f e (turning e.next)) (edges q)
 abbrev pub Way : Symbol → ℕ → Type 0
 Way (Token c a) y = y ≡ 0
 Way (Node g) y = Has (kinds g) y
+Way Entry y = Unit {0}
 
 symbol_among : (s : Symbol) (k : Class) → BeginsSymbol s k → among k (beginners_symbol s) ≡ true
 symbol_among (Token c a) k b = has_member class_number k (takes c) b.0 b.1
 symbol_among (Node g) k b = has_member class_number k (firsts g) b.0 b.1
+symbol_among Entry k b = has_member class_number k entry_classes b.0 b.1
 
 begins_among : (b : Option Separator) (s : Symbol) (k : Class) → Begins b s k → among k (beginners b s) ≡ true
 begins_among None s k b = symbol_among s k b
@@ -142,6 +148,7 @@ c_unnamed q = not (is_some (name_of (home q)))
 abbrev symbol_is : Symbol → Nonterminal → Bool
 symbol_is (Token c a) g = false
 symbol_is (Node b) g = eqb (number b) (number g)
+symbol_is Entry g = false
 
 abbrev lone : Head → List Edge → Bool
 lone c [] = false
@@ -161,6 +168,21 @@ c_open s = on_some (λ c. not (is_some (shuns c.goal))) (corner s)
 abbrev is_empty : List Class → Bool
 is_empty [] = true
 is_empty (k ∷ ks) = false
+
+-- what holds no block has no part that holds one, and nothing else is read before its production is known
+abbrev pub symbol_flat : Symbol → Bool
+symbol_flat (Token c a) = true
+symbol_flat (Node g) = flat_goal g
+symbol_flat Entry = false
+
+abbrev c_flat : ℕ → Bool
+c_flat q = when (flat q) (steps (λ e n. symbol_flat e.symbol && flat n) q)
+
+abbrev c_flat_left : ℕ → Bool
+c_flat_left s = on_some (λ c. flat_goal c.goal) (corner s)
+
+abbrev c_flat_goal : Nonterminal → Bool
+c_flat_goal g = when (flat_goal g) (every (λ z. flat (home z)) (kinds g))
 
 -- nothing goes on from a block, and it begins with a token
 abbrev c_scoped : ℕ → Bool
@@ -215,12 +237,29 @@ numbers_have (x ∷ ps) n (suc i) p e =
     let same : (n + 1) + i ≡ n + suc i = omega arith in
     (suc h.0, h.1 ∙ ap Some same)
 
+-- an item of a block begins with any token but `}`, and nothing goes on from it
+entries_all : every (λ k. among k entry_classes || eqb (class_number k) (class_number cl.RightBrace)) all_classes ≡ true
+unfolding entry_classes
+entries_all = refl
+
+entries_open : not (among cl.RightBrace entry_classes) ≡ true
+unfolding entry_classes
+entries_open = refl
+
+goals_entries : every (λ g. within (firsts g) entry_classes) all_goals ≡ true
+unfolding firsts goal goals entry_classes
+goals_entries = refl
+
+entry_goes : goes nt.BlockItem ≡ []
+unfolding goes goal goals
+entry_goes = refl
+
 places_apart : every_place c_apart ≡ true
-unfolding places place edges firsts goal goals
+unfolding places place edges firsts goal goals entry_classes
 places_apart = refl
 
 places_more : every_place c_more ≡ true
-unfolding places place edges name_of bars ends firsts goal goals
+unfolding places place edges name_of bars ends firsts goal goals entry_classes
 places_more = refl
 
 places_on : every_place c_on ≡ true
@@ -232,7 +271,7 @@ unfolding places place edges turning name_of bars ends goes goal goals
 places_held = refl
 
 places_shut : every_place c_shut ≡ true
-unfolding places place edges turning corner firsts goes goal goals
+unfolding places place edges turning corner firsts goes goal goals entry_classes
 places_shut = refl
 
 places_homes : every_place c_homes ≡ true
@@ -252,7 +291,7 @@ unfolding places place edges turning name_of corner home
 places_corner = refl
 
 places_left : every_place c_left ≡ true
-unfolding places place edges corner home ends firsts kinds goal goals
+unfolding places place edges corner home ends firsts kinds goal goals entry_classes
 places_left = refl
 
 places_open : every_place c_open ≡ true
@@ -263,8 +302,20 @@ places_scoped : every_place c_scoped ≡ true
 unfolding places place scoped home ends corner
 places_scoped = refl
 
+places_flat : every_place c_flat ≡ true
+unfolding places place edges turning flat flat_goal goal goals
+places_flat = refl
+
+places_flat_left : every_place c_flat_left ≡ true
+unfolding places place corner flat_goal goal goals
+places_flat_left = refl
+
+goals_flat : every c_flat_goal all_goals ≡ true
+unfolding places place home flat kinds flat_goal goal goals
+goals_flat = refl
+
 goals_checked : every c_goal all_goals ≡ true
-unfolding shuns places place edges name_of bars is_named turning turn home corner kinds openers suffixes firsts ends goes goal goals
+unfolding shuns places place edges name_of bars is_named turning turn home corner kinds openers suffixes firsts ends goes goal goals entry_classes
 goals_checked = refl
 
 -- a place that the table doesn't have is nowhere
@@ -314,6 +365,12 @@ record PlaceFacts (q : ℕ) : Type 0 where
   left : c_left q ≡ true
   opened : c_open q ≡ true
   scoped : c_scoped q ≡ true
+  flat : c_flat q ≡ true
+  flat_left : c_flat_left q ≡ true
+
+when_always : (b : Bool) → when b true ≡ true
+when_always true = refl
+when_always false = refl
 
 place_facts : (q : ℕ) → PlaceFacts q
 place_facts q = elim (either q) [
@@ -330,6 +387,8 @@ place_facts q = elim (either q) [
     left = rw l.corner_none refl;
     opened = rw l.corner_none refl;
     scoped = rw l.scoped_false refl;
+    flat = rw l.edges_none (when_always (flat q));
+    flat_left = rw l.corner_none refl;
   })
   | inr h ↦ record {
     apart = every_has c_apart (numbers 0 places) places_apart q h;
@@ -344,6 +403,8 @@ place_facts q = elim (either q) [
     left = every_has c_left (numbers 0 places) places_left q h;
     opened = every_has c_open (numbers 0 places) places_open q h;
     scoped = every_has c_scoped (numbers 0 places) places_scoped q h;
+    flat = every_has c_flat (numbers 0 places) places_flat q h;
+    flat_left = every_has c_flat_left (numbers 0 places) places_flat_left q h;
   }
 ]
 
@@ -434,6 +495,7 @@ pub record Cornered (s : ℕ) (c : Head) : Type 0 where
 symbol_goal : (s : Symbol) (g : Nonterminal) → symbol_is s g ≡ true → s ≡ Node g
 symbol_goal (Token c a) g t = absurd (false≢true t)
 symbol_goal (Node b) g t = ap Node (same_goal_is b g (eqb-true (number b) (number g) t))
+symbol_goal Entry g t = absurd (false≢true t)
 
 Lone : Head → Edge → Type 0
 Lone c e = (e.symbol ≡ Node c.goal) × (e.next ≡ c.next) × (e.before ≡ None)
@@ -498,6 +560,35 @@ firsts_have g z k h n begun =
 -- a production that begins with a left part: that part shuns nothing, and the node is no block
 pub left_open : (s : ℕ) (c : Head) → corner s ≡ Some c → shuns c.goal ≡ None
 left_open s c e = none_is (shuns c.goal) (on_some_use (λ d. not (is_some (shuns d.goal))) (corner s) c e (place_facts s).opened)
+
+pub entry_class : (k : Class) → (k ≡ cl.RightBrace → ⊥) → Has entry_classes k
+entry_class k not =
+    elim (or_cases (among k entry_classes) (eqb (class_number k) (class_number cl.RightBrace))
+    (every_has (λ k. among k entry_classes || eqb (class_number k) (class_number cl.RightBrace)) all_classes entries_all k (class_number k, numbered_class k))) [
+      | inl a ↦ among_has k entry_classes a
+      | inr b ↦ absurd (not (same_class_is k cl.RightBrace (eqb-true (class_number k) (class_number cl.RightBrace) b)))
+    ]
+
+pub entry_open : (k : Class) → Has entry_classes k → k ≡ cl.RightBrace → ⊥
+entry_open k has e = not_use (among cl.RightBrace entry_classes) entries_open (has_among cl.RightBrace entry_classes (subst (Has entry_classes) e has))
+
+pub firsts_entry : (g : Nonterminal) (k : Class) → Has (firsts g) k → Has entry_classes k
+firsts_entry g k has =
+    within_use (firsts g) entry_classes k (every_has (λ g. within (firsts g) entry_classes) all_goals goals_entries g (number g, numbered_goal g)) (has_among k (firsts g) has)
+
+pub entry_stops : (k : Class) → Has (goes nt.BlockItem) k → ⊥
+entry_stops k has = none_not (subst (λ (v : List Class). slice_get v has.0 ≡ Some k) entry_goes has.1)
+
+pub left_flat : (s : ℕ) (c : Head) → corner s ≡ Some c → flat_goal c.goal ≡ true
+left_flat s c e = on_some_use (λ d. flat_goal d.goal) (corner s) c e (place_facts s).flat_left
+
+pub flat_kind : (g : Nonterminal) (z : ℕ) → flat_goal g ≡ true → Has (kinds g) z → flat (home z) ≡ true
+flat_kind g z is h =
+    every_has (λ v. flat (home v)) (kinds g) (when_use (flat_goal g) _ (every_has c_flat_goal all_goals goals_flat g (number g, numbered_goal g)) is) z h
+
+pub flat_edge : (q : ℕ) (e : Edge) (y : ℕ) → flat q ≡ true → Has (edges q) e → (symbol_flat e.symbol ≡ true) × (flat (turn e.next y) ≡ true)
+flat_edge q e y is h =
+    and_parts (symbol_flat e.symbol) (flat (turn e.next y)) (steps_use (λ d n. symbol_flat d.symbol && flat n) q (when_use (flat q) _ (place_facts q).flat is) e y h)
 
 bool_cases : (b : Bool) → (b ≡ true) ⊎ (b ≡ false)
 bool_cases true = inl refl

@@ -14,7 +14,7 @@ use Rattle.cl_tree.specs.declared.nonterminal.Nonterminal.{Nonterminal}
 use Rattle.cl_tree.specs.declared.nonterminal.Nonterminal.TheVariants as nt
 use Rattle.cl_tree.specs.declared.grammar.Terminal.{Terminal}
 use Rattle.cl_tree.specs.declared.grammar.Symbol.{Symbol}
-use Rattle.cl_tree.specs.declared.grammar.Symbol.TheVariants.{Token, Node}
+use Rattle.cl_tree.specs.declared.grammar.Symbol.TheVariants.{Token, Node, Entry}
 use Rattle.cl_tree.specs.declared.grammar.Separator.{Separator}
 use Rattle.cl_tree.specs.declared.tree.Tree.{Tree}
 use Rattle.cl_tree.specs.declared.lexeme.Lexeme.{Lexeme}
@@ -26,7 +26,7 @@ use Rattle.cl_expr.specs.declared.table.Edge.{Edge}
 use Rattle.cl_expr.specs.code.Table.{places, place, edges, turning, turn, home, kinds, goal, goals, name_of}
 use Rattle.cl_expr.specs.code.Paths.{name, Ended, Reads, ReadsAfter, Path, Kind, At}
 use Rattle.cl_expr.proofs.All.{class_number, same_class_is}
-use Rattle.cl_expr.proofs.Checks.{every, when, when_use, none_not, some_is, every_has, has_member}
+use Rattle.cl_expr.proofs.Checks.{every, when, not_false, when_use, none_not, some_is, every_has, has_member}
 use Rattle.cl_expr.proofs.Conditions.{every_place, steps, steps_use, kind_in, place_number, no_name}
 use Rattle.cl_expr.proofs.Heights.{kind_of, kind_flat, end_piece}
 use Rattle.cl_expr.proofs.Bridge.{of_derives, in_edges}
@@ -71,10 +71,12 @@ same_class ts s w i k plain e = go (slice_get ts i) e
 abbrev ends_semicolon : Symbol → Bool
 ends_semicolon (Token c a) = every (λ k. eqb (class_number k) (class_number cl.Semicolon)) (takes c) && not (is_body c)
 ends_semicolon (Node g) = false
+ends_semicolon Entry = false
 
 abbrev ends_body : Symbol → Bool
 ends_body (Token c a) = is_body c
 ends_body (Node g) = false
+ends_body Entry = false
 
 abbrev c_semicolon : ℕ → Bool
 c_semicolon q = steps (λ e n. when (kind_in n (kinds nt.Declaration)) (ends_semicolon e.symbol)) q
@@ -123,19 +125,16 @@ module _ (cs : List Lexeme) (h : ℕ) (ok : Symbol → Bool) (z : ℕ) (f : (q :
 piece_end : (cs : List Lexeme) (c : Terminal) (at to : ℕ) (p : Tree) → p ≡ piece cs c at → end p ≡ to → to - 1 ≡ last_token cs c at
 piece_end cs c at to p is e = let x : to ≡ last_token cs c at + 1 = sym e ∙ ap end is ∙ end_piece cs c at in omega (arith, x)
 
-not_true : (b : Bool) → not b ≡ true → b ≡ false
-not_true true n = absurd (false≢true n)
-not_true false n = refl
-
 semicolon_of : (cs : List Lexeme) (h to : ℕ) (s : Scope) → Last cs h to ends_semicolon → class_at cs s (to - 1) ≡ Some cl.Semicolon
 semicolon_of cs h to s l = go l.symbol l.fine l.reads
   where
     go : (x : Symbol) → ends_semicolon x ≡ true → Reads (At cs h) h cs x l.kind l.before l.at l.tree l.after → class_at cs s (to - 1) ≡ Some cl.Semicolon
     go (Node g) t r = absurd (false≢true t)
+    go Entry t r = absurd (false≢true t)
     go (Token c a) t r =
         let q = and_parts (every (λ v. eqb (class_number v) (class_number cl.Semicolon)) (takes c)) (not (is_body c)) t in
         let k = r.3.0 in
-        let plain : is_body c ≡ false = not_true (is_body c) q.1 in
+        let plain : is_body c ≡ false = not_false (is_body c) q.1 in
         let same : k ≡ cl.Semicolon = same_class_is k cl.Semicolon (eqb-true (class_number k) (class_number cl.Semicolon)
         (every_has (λ v. eqb (class_number v) (class_number cl.Semicolon)) (takes c) q.0 k r.3.2)) in
         let last_is : last_token cs c l.at ≡ l.at = rw plain refl in
@@ -148,6 +147,7 @@ brace_of cs h to s l = go l.symbol l.fine l.reads
   where
     go : (x : Symbol) → ends_body x ≡ true → Reads (At cs h) h cs x l.kind l.before l.at l.tree l.after → class_at cs s (to - 1) ≡ Some cl.RightBrace
     go (Node g) t r = absurd (false≢true t)
+    go Entry t r = absurd (false≢true t)
     go (Token c a) t r =
         let there : to - 1 ≡ last_token cs c l.at = piece_end cs c l.at to l.tree r.2 l.ends in
         subst (λ (i : ℕ). class_at cs s i ≡ Some cl.RightBrace) (sym there) (same_class cs l.before s (last_token cs c l.at) cl.RightBrace refl (r.5 t).1)

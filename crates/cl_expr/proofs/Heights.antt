@@ -1,10 +1,12 @@
 -- Heights, and the token with which a tree begins.
-use Rattle.std.proofs.Common.{◌≡◌, ℕ, zero, suc, ◌+◌, ◌≤◌, List, [], ◌∷◌, arith, refl, sym, ◌∙◌, ap, subst}
-use Rattle.std.specs.Prelude.{Option, Some, None}
+use Rattle.std.proofs.Common.{◌≡◌, ℕ, zero, suc, ◌+◌, ◌≤◌, List, [], ◌∷◌, inl, inr, arith, refl, sym, ◌∙◌, ap, subst}
+use Rattle.std.specs.Prelude.{Option, Some, None, true}
+use Rattle.std.proofs.lemmas.Bool.{false≢true}
 use Rattle.cl_tree.specs.declared.class.Class.{Class}
 use Rattle.cl_tree.specs.declared.nonterminal.Nonterminal.{Nonterminal}
 use Rattle.cl_tree.specs.declared.grammar.Symbol.{Symbol}
-use Rattle.cl_tree.specs.declared.grammar.Symbol.TheVariants.{Token, Node}
+use Rattle.cl_tree.specs.declared.grammar.Symbol.TheVariants.{Token, Node, Entry}
+use Rattle.cl_tree.specs.declared.nonterminal.Nonterminal.TheVariants as nt
 use Rattle.cl_tree.specs.declared.grammar.Separator.{Separator}
 use Rattle.cl_tree.specs.declared.grammar.Terminal.{Terminal}
 use Rattle.cl_expr.specs.declared.table.Label.{Label}
@@ -12,34 +14,11 @@ use Rattle.cl_tree.specs.declared.tree.Tree.{Tree, Tree-F, out-roll-Tree, roll-o
 use Rattle.cl_tree.specs.declared.lexeme.Lexeme.{Lexeme}
 use Rattle.cl_tree.specs.declared.scope.Scope.{Scope}
 use Rattle.cl_tree.specs.Scopes.{class_at, pass, leave}
-use Rattle.cl_expr.specs.code.Table.{name_of, scoped, turn, home, kinds, firsts}
-use Rattle.cl_tree.specs.Derives.{Has, start, end, parts, piece, last_token, Opened}
+use Rattle.cl_expr.specs.code.Table.{name_of, scoped, flat, turn, home, kinds, firsts}
+use Rattle.cl_tree.specs.Derives.{Has, start, end, parts, piece, last_token, Opened, bad}
 use Rattle.cl_expr.specs.code.Paths.{name, node, Ended, Reads, ReadsAfter, Path, Kind, At}
 use Rattle.cl_expr.specs.code.Parses.{AllOf, Tall, BeginsSymbol, Begins, Enters}
-use Rattle.cl_expr.proofs.Conditions.{no_name, firsts_have}
-
-module _ (cs : List Lexeme) (D E : Nonterminal → ℕ → Scope → Tree → Scope → Type 0) (h k : ℕ) (le : h ≤ k) (f : (g : Nonterminal) (y : ℕ) (sa : Scope) (p : Tree) (sw : Scope) → D g y sa p sw → E g y sa p sw) where
-  reads_map : (x : Symbol) (y : ℕ) (sa : Scope) (at : ℕ) (p : Tree) (sw : Scope) → Reads D h cs x y sa at p sw → Reads E k cs x y sa at p sw
-  reads_map (Token c a) y sa at p sw r = (r.0, omega (arith, r.1), r.2, r.3, r.4, r.5)
-  reads_map (Node g) y sa at p sw r = (f g y sa p sw r.0, r.1)
-
-  pub after_map : (b : Option Separator) (x : Symbol) (y : ℕ) (sa : Scope) (at : ℕ) (p : Tree) (sw : Scope) → ReadsAfter D h cs b x y sa at p sw → ReadsAfter E k cs b x y sa at p sw
-  after_map None x y sa at p sw r = reads_map x y sa at p sw r
-  after_map (Some b) x y sa at p sw r = (r.0, reads_map x y (pass cs sa b.act at) (at + 1) p sw r.1)
-
-  pub path_map : (ps : List Tree) (q : ℕ) (sa : Scope) (at to : ℕ) (z : ℕ) (sv : Scope) → Path D h cs q sa at to ps z sv → Path E k cs q sa at to ps z sv
-  path_map [] q sa at to z sv s = s
-  path_map (p ∷ ps) q sa at to z sv s = (s.0, s.1, s.2, s.3, after_map s.0.before s.0.symbol s.1 sa at p s.2 s.4, path_map ps (turn s.0.next s.1) s.2 (end p) to z sv s.5)
-
-pub kind_le : (cs : List Lexeme) (h k : ℕ) (z : ℕ) (sa : Scope) (t : Tree) (sw : Scope) → h ≤ k → Kind cs h z sa t sw → Kind cs k z sa t sw
-unfolding Kind
-kind_le cs zero k z sa t sw le a = elim a [ ]
-kind_le cs (suc h) zero z sa t sw le a = absurd (omega arith)
-kind_le cs (suc h) (suc k) z sa t sw le a =
-    (a.0, a.1, a.2, path_map cs (At cs h) (At cs k) h k (omega arith) (λ g y s' p w' d. (d.0, kind_le cs h k y s' p w' (omega arith) d.1, d.2)) (parts t) (home z) sa (start t) (end t) z a.0 a.3)
-
-pub path_le : (cs : List Lexeme) (h k : ℕ) → h ≤ k → (ps : List Tree) (q : ℕ) (sa : Scope) (at to : ℕ) (z : ℕ) (sv : Scope) → Path (At cs h) h cs q sa at to ps z sv → Path (At cs k) k cs q sa at to ps z sv
-path_le cs h k le ps q sa at to z sv s = path_map cs (At cs h) (At cs k) h k le (λ g y s' p w' d. (d.0, kind_le cs h k y s' p w' le d.1, d.2)) ps q sa at to z sv s
+use Rattle.cl_expr.proofs.Conditions.{no_name, firsts_have, symbol_flat, flat_kind, flat_edge, entry_class, firsts_entry}
 
 -- a tree of a kind from within: what is declared at its end, and its parts
 pub record Inside (cs : List Lexeme) (h : ℕ) (z : ℕ) (sa : Scope) (t : Tree) (sw : Scope) : Type 0 where
@@ -65,27 +44,33 @@ pub end_piece : (cs : List Lexeme) (c : Terminal) (at : ℕ) → end (piece cs c
 end_piece cs c at = ap (λ x. x.to) (out-roll-Tree (record { rule = _; choice = 0; from = at; to = last_token cs c at + 1; parts = [] }))
 
 -- a tree of a kind is no higher than its bound
-tall_piece : (cs : List Lexeme) (c : Terminal) (h at : ℕ) → 1 ≤ h → Tall h (piece cs c at)
+pub tall_piece : (cs : List Lexeme) (c : Terminal) (h at : ℕ) → 1 ≤ h → Tall h (piece cs c at)
 unfolding Tall
 tall_piece cs c zero at l = absurd (omega arith)
 tall_piece cs c (suc h) at l = subst (λ (x : Tree-F Tree). AllOf (Tall h) x.parts) (sym (out-roll-Tree (record { rule = _; choice = 0; from = at; to = last_token cs c at + 1; parts = [] }))) tt
 
-pub kind_tall : (cs : List Lexeme) (h : ℕ) (z : ℕ) (sa : Scope) (t : Tree) (sw : Scope) → Kind cs h z sa t sw → Tall h t
-unfolding Kind Tall
-kind_tall cs zero z sa t sw a = a
-kind_tall cs (suc h) z sa t sw a = go (λ y s' p w' b. kind_tall cs h y s' p w' b) (parts t) (home z) sa (start t) a.0 a.3
-  where
-    one : ((y : ℕ) (s' : Scope) (p : Tree) (w' : Scope) → Kind cs h y s' p w' → Tall h p) → (x : Symbol) (y : ℕ) (s' : Scope) (at : ℕ) (p : Tree) (w' : Scope) → Reads (At cs h) h cs x y s' at p w' → Tall h p
-    one f (Token c a) y s' at p w' r = subst (Tall h) (sym r.2) (tall_piece cs c h at r.1)
-    one f (Node g) y s' at p w' r = f y s' p w' r.0.1
+pub end_bad : (from to : ℕ) → end (bad from to) ≡ to
+end_bad from to = ap (λ x. x.to) (out-roll-Tree (record { rule = _; choice = 0; from = from; to = to; parts = [] }))
 
-    after : ((y : ℕ) (s' : Scope) (p : Tree) (w' : Scope) → Kind cs h y s' p w' → Tall h p) → (b : Option Separator) (x : Symbol) (y : ℕ) (s' : Scope) (at : ℕ) (p : Tree) (w' : Scope) → ReadsAfter (At cs h) h cs b x y s' at p w' → Tall h p
-    after f None x y s' at p w' r = one f x y s' at p w' r
-    after f (Some b) x y s' at p w' r = one f x y (pass cs s' b.act at) (at + 1) p w' r.1
+pub tall_bad : (h from to : ℕ) → 1 ≤ h → Tall h (bad from to)
+unfolding Tall
+tall_bad zero from to l = absurd (omega arith)
+tall_bad (suc h) from to l = subst (λ (x : Tree-F Tree). AllOf (Tall h) x.parts) (sym (out-roll-Tree (record { rule = _; choice = 0; from = from; to = to; parts = [] }))) tt
 
-    go : ((y : ℕ) (s' : Scope) (p : Tree) (w' : Scope) → Kind cs h y s' p w' → Tall h p) → (ps : List Tree) (q : ℕ) (s' : Scope) (at : ℕ) (v : Scope) → Path (At cs h) h cs q s' at (end t) ps z v → AllOf (Tall h) ps
-    go f [] q s' at v s = tt
-    go f (p ∷ ps) q s' at v s = (after f s.0.before s.0.symbol s.1 s' at p s.2 s.4, go f ps (turn s.0.next s.1) s.2 (end p) v s.5)
+module _ (cs : List Lexeme) (h : ℕ) (f : (y : ℕ) (s' : Scope) (p : Tree) (w' : Scope) → Kind cs h y s' p w' → Tall h p) where
+  tall_one : (x : Symbol) (y : ℕ) (s' : Scope) (at : ℕ) (p : Tree) (w' : Scope) → Reads (At cs h) h cs x y s' at p w' → Tall h p
+  tall_one (Token c a) y s' at p w' r = subst (Tall h) (sym r.2) (tall_piece cs c h at r.1)
+  tall_one (Node g) y s' at p w' r = f y s' p w' r.0.1
+  tall_one Entry y s' at p w' (inl r) = f y s' p w' r.0.1
+  tall_one Entry y s' at p w' (inr r) = subst (Tall h) (sym r.2) (tall_bad h at _ r.1)
+
+  tall_after : (b : Option Separator) (x : Symbol) (y : ℕ) (s' : Scope) (at : ℕ) (p : Tree) (w' : Scope) → ReadsAfter (At cs h) h cs b x y s' at p w' → Tall h p
+  tall_after None x y s' at p w' r = tall_one x y s' at p w' r
+  tall_after (Some b) x y s' at p w' r = tall_one x y (pass cs s' b.act at) (at + 1) p w' r.1
+
+  tall_path : (ps : List Tree) (q : ℕ) (s' : Scope) (at to : ℕ) (z : ℕ) (v : Scope) → Path (At cs h) h cs q s' at to ps z v → AllOf (Tall h) ps
+  tall_path [] q s' at to z v s = tt
+  tall_path (p ∷ ps) q s' at to z v s = (tall_after s.0.before s.0.symbol s.1 s' at p s.2 s.4, tall_path ps (turn s.0.next s.1) s.2 (end p) to z v s.5)
 
 pub tall_zero : (t : Tree) → Tall 0 t → ⊥
 unfolding Tall
@@ -94,6 +79,65 @@ tall_zero t a = a
 pub tall_parts : (k : ℕ) (t : Tree) → Tall (suc k) t → AllOf (Tall k) (parts t)
 unfolding Tall
 tall_parts k t a = a
+
+pub of_parts : (k : ℕ) (t : Tree) → AllOf (Tall k) (parts t) → Tall (suc k) t
+unfolding Tall
+of_parts k t a = a
+
+pub kind_tall : (cs : List Lexeme) (h : ℕ) (z : ℕ) (sa : Scope) (t : Tree) (sw : Scope) → Kind cs h z sa t sw → Tall h t
+kind_tall cs zero z sa t sw a = absurd (kind_flat cs z sa t sw a)
+kind_tall cs (suc h) z sa t sw a =
+    let i = kind_of cs h z sa t sw a in
+    of_parts h t (tall_path cs h (λ y s' p w' b. kind_tall cs h y s' p w' b) (parts t) (home z) sa (start t) (end t) z i.state i.path)
+
+pub path_tall : (cs : List Lexeme) (h : ℕ) (ps : List Tree) (q : ℕ) (sa : Scope) (at to : ℕ) (z : ℕ) (v : Scope) → Path (At cs h) h cs q sa at to ps z v → AllOf (Tall h) ps
+path_tall cs h ps q sa at to z v s = tall_path cs h (λ y s' p w' b. kind_tall cs h y s' p w' b) ps q sa at to z v s
+
+tall_some : (k : ℕ) (t : Tree) → Tall k t → 1 ≤ k
+tall_some zero t a = absurd (tall_zero t a)
+tall_some (suc k) t a = omega arith
+
+all_map : {P Q : Tree → Type 0} (ts : List Tree) → ((t : Tree) → P t → Q t) → AllOf P ts → AllOf Q ts
+all_map [] f a = tt
+all_map (t ∷ ts) f a = (f t a.0, all_map ts f a.1)
+
+pub tall_le : (h k : ℕ) (t : Tree) → h ≤ k → Tall h t → Tall k t
+tall_le zero k t le a = absurd (tall_zero t a)
+tall_le (suc h) zero t le a = absurd (omega arith)
+tall_le (suc h) (suc k) t le a = of_parts k t (all_map (parts t) (λ p x. tall_le h k p (omega arith) x) (tall_parts h t a))
+
+pub all_tall_le : (h k : ℕ) (ts : List Tree) → h ≤ k → AllOf (Tall h) ts → AllOf (Tall k) ts
+all_tall_le h k ts le a = all_map ts (λ p x. tall_le h k p le x) a
+
+-- what holds no block derives by any bound that isn't below its height
+module _ (cs : List Lexeme) (h k : ℕ) (f : (y : ℕ) (sa : Scope) (p : Tree) (sw : Scope) → flat (home y) ≡ true → Tall k p → Kind cs h y sa p sw → Kind cs k y sa p sw) where
+  reads_fit : (x : Symbol) (y : ℕ) (sa : Scope) (at : ℕ) (p : Tree) (sw : Scope) → symbol_flat x ≡ true → Tall k p → Reads (At cs h) h cs x y sa at p sw → Reads (At cs k) k cs x y sa at p sw
+  reads_fit (Token c a) y sa at p sw is tall r = (r.0, tall_some k p tall, r.2, r.3, r.4, r.5)
+  reads_fit Entry y sa at p sw is tall r = absurd (false≢true is)
+  reads_fit (Node g) y sa at p sw is tall r = ((r.0.0, f y sa p sw (flat_kind g y is r.0.0) tall r.0.1, r.0.2), r.1)
+
+  after_fit : (b : Option Separator) (x : Symbol) (y : ℕ) (sa : Scope) (at : ℕ) (p : Tree) (sw : Scope) → symbol_flat x ≡ true → Tall k p → ReadsAfter (At cs h) h cs b x y sa at p sw
+      → ReadsAfter (At cs k) k cs b x y sa at p sw
+  after_fit None x y sa at p sw is tall r = reads_fit x y sa at p sw is tall r
+  after_fit (Some b) x y sa at p sw is tall r = (r.0, reads_fit x y (pass cs sa b.act at) (at + 1) p sw is tall r.1)
+
+  fit_path : (ps : List Tree) (q : ℕ) (sa : Scope) (at to : ℕ) (z : ℕ) (sv : Scope) → flat q ≡ true → AllOf (Tall k) ps → Path (At cs h) h cs q sa at to ps z sv → Path (At cs k) k cs q sa at to ps z sv
+  fit_path [] q sa at to z sv is tall s = s
+  fit_path (p ∷ ps) q sa at to z sv is tall s = (
+      let e = flat_edge q s.0 s.1 is s.3 in
+      (s.0, s.1, s.2, s.3, after_fit s.0.before s.0.symbol s.1 sa at p s.2 e.0 tall.0 s.4, fit_path ps (turn s.0.next s.1) s.2 (end p) to z sv e.1 tall.1 s.5))
+
+pub kind_fit : (cs : List Lexeme) (h k : ℕ) (z : ℕ) (sa : Scope) (t : Tree) (sw : Scope) → flat (home z) ≡ true → Tall k t → Kind cs h z sa t sw → Kind cs k z sa t sw
+kind_fit cs h zero z sa t sw is tall a = absurd (tall_zero t tall)
+kind_fit cs zero (suc k) z sa t sw is tall a = absurd (kind_flat cs z sa t sw a)
+kind_fit cs (suc h) (suc k) z sa t sw is tall a =
+    let i = kind_of cs h z sa t sw a in
+    of_kind cs k z sa t sw i.state i.leaves i.ended
+    (fit_path cs h k (λ y s' p w' fl tl b. kind_fit cs h k y s' p w' fl tl b) (parts t) (home z) sa (start t) (end t) z i.state is (tall_parts k t tall) i.path)
+
+pub path_fit : (cs : List Lexeme) (h k : ℕ) (ps : List Tree) (q : ℕ) (sa : Scope) (at to : ℕ) (z : ℕ) (sv : Scope) → flat q ≡ true → AllOf (Tall k) ps → Path (At cs h) h cs q sa at to ps z sv
+    → Path (At cs k) k cs q sa at to ps z sv
+path_fit cs h k ps q sa at to z sv is tall s = fit_path cs h k (λ y s' p w' fl tl b. kind_fit cs h k y s' p w' fl tl b) ps q sa at to z sv is tall s
 
 -- the token with which a tree begins
 pub record First (cs : List Lexeme) (sa : Scope) (at : ℕ) (P : Class → Type 0) : Type 0 where
@@ -110,6 +154,10 @@ symbol_by cs h f (Token c a) y sa at p sw r = record { class = r.3.0; token = r.
 symbol_by cs h f (Node b) y sa at p sw r =
     let o = f b y sa p sw r.0 in
     record { class = o.class; token = subst (λ (i : ℕ). class_at cs sa i ≡ Some o.class) r.1 o.token; begins = o.begins }
+symbol_by cs h f Entry y sa at p sw (inl r) =
+    let o = f nt.BlockItem y sa p sw r.0 in
+    record { class = o.class; token = subst (λ (i : ℕ). class_at cs sa i ≡ Some o.class) r.1 o.token; begins = firsts_entry nt.BlockItem o.class o.begins }
+symbol_by cs h f Entry y sa at p sw (inr r) = record { class = r.4.0; token = r.4.1; begins = entry_class r.4.0 r.4.2 }
 
 reads_by : (cs : List Lexeme) (h : ℕ) → FirstOf cs h
     → (b : Option Separator) (x : Symbol) (y : ℕ) (sa : Scope) (at : ℕ) (p : Tree) (sw : Scope) → ReadsAfter (At cs h) h cs b x y sa at p sw → First cs sa at (Begins b x)

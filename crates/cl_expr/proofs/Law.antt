@@ -1,10 +1,11 @@
 -- No list of tokens has two trees of one nonterminal, from one state.
-use Rattle.std.proofs.Common.{◌≡◌, ℕ, zero, suc, ◌+◌, List, [], ◌∷◌, arith, refl, sym, ◌∙◌, ap, subst}
+use Rattle.std.proofs.Common.{◌≡◌, ℕ, zero, suc, ◌+◌, List, [], ◌∷◌, inl, inr, arith, refl, sym, ◌∙◌, ap, subst}
 use Rattle.std.specs.Prelude.{Option, Some, None}
 use Rattle.cl_tree.specs.declared.class.Class.{Class}
 use Rattle.cl_tree.specs.declared.nonterminal.Nonterminal.{Nonterminal}
 use Rattle.cl_tree.specs.declared.grammar.Symbol.{Symbol}
-use Rattle.cl_tree.specs.declared.grammar.Symbol.TheVariants.{Token, Node}
+use Rattle.cl_tree.specs.declared.grammar.Symbol.TheVariants.{Token, Node, Entry}
+use Rattle.cl_tree.specs.declared.nonterminal.Nonterminal.TheVariants as nt
 use Rattle.cl_tree.specs.declared.grammar.Separator.{Separator}
 use Rattle.cl_expr.specs.declared.table.Edge.{Edge}
 use Rattle.cl_expr.specs.declared.table.Head.{Head}
@@ -19,7 +20,7 @@ use Rattle.cl_tree.specs.Derives.{Has, start, end, parts}
 use Rattle.cl_expr.specs.code.Paths.{name, node, Ended, Reads, ReadsAfter, Path, Kind, At, Whole}
 use Rattle.cl_expr.specs.code.Parses.{Begins, Enters, Stops, Halts, StopsSymbol, Continues, Spine, here, next}
 use Rattle.cl_expr.proofs.Checks.{some_is}
-use Rattle.cl_expr.proofs.Conditions.{Way, one_edge, more, on, held, shut, plain_next, cornered, reach, one_opener, opener, one_suffix, goes_suffix, top}
+use Rattle.cl_expr.proofs.Conditions.{Way, one_edge, more, on, held, shut, plain_next, cornered, reach, one_opener, opener, one_suffix, goes_suffix, top, entry_stops}
 use Rattle.cl_expr.proofs.Heights.{kind_of, kind_flat, path_enters, reads_first, node_is}
 use Rattle.cl_expr.proofs.Reading.{way_of}
 use Rattle.cl_expr.proofs.Climb.{corner_of, entered, inner_halts, continued, continues_goes}
@@ -43,6 +44,7 @@ module _ (cs : List Lexeme) (h : ℕ) (one : One cs h) where
   stops_first : (q : ℕ) (e : Edge) (s : Symbol) → corner q ≡ None → Has (edges q) e → e.symbol ≡ s → (y : ℕ) (sx : Scope) (at to : ℕ) (rest : List Tree) (z : ℕ) (sv : Scope) (n : Label) → Way s y
       → Path (At cs h) h cs (turn e.next y) sx at to rest z sv → Ended cs sv z to n → Halts cs sv q to → StopsSymbol cs sx s at
   stops_first q e (Token c a) plain has is y sx at to rest z sv n w p ended halts = tt
+  stops_first q e Entry plain has is y sx at to rest z sv n w p ended halts = tt
   stops_first q e (Node g) plain has is y sx at to [] z sv n w p ended halts = λ k t goes.
       halts k (at_end sx sv at to k p.0 p.2 t)
       (held q e g y k n has is w (subst (λ (v : ℕ). name_of v ≡ Some n) (sym p.1) ended.0)
@@ -56,6 +58,11 @@ module _ (cs : List Lexeme) (h : ℕ) (one : One cs h) where
       → StopsSymbol cs sp s (end p) → StopsSymbol cs sr s (end r) → (p ≡ r) × (y ≡ x) × (sp ≡ sr)
   one_symbol (Token c k) y x sm at p r sp sr a b s s' = (a.2 ∙ sym b.2, a.0 ∙ sym b.0, a.4 ∙ sym b.4)
   one_symbol (Node g) y x sm at p r sp sr a b s s' = one g sm p r y x sp sr a.0 b.0 (a.1 ∙ sym b.1) s s'
+  one_symbol Entry y x sm at p r sp sr (inl a) (inl b) s s' =
+      one nt.BlockItem sm p r y x sp sr a.0 b.0 (a.1 ∙ sym b.1) (λ k token has. entry_stops k has) (λ k token has. entry_stops k has)
+  one_symbol Entry y x sm at p r sp sr (inl a) (inr b) s s' = absurd (b.5 p y sp a.0 a.1)
+  one_symbol Entry y x sm at p r sp sr (inr a) (inl b) s s' = absurd (a.5 r x sr b.0 b.1)
+  one_symbol Entry y x sm at p r sp sr (inr a) (inr b) s s' = (a.2 ∙ sym b.2, a.0 ∙ sym b.0, a.3 ∙ sym b.3)
 
   one_part : (o : Option Separator) (s : Symbol) (y x : ℕ) (sm : Scope) (at : ℕ) (p r : Tree) (sp sr : Scope) → ReadsAfter (At cs h) h cs o s y sm at p sp → ReadsAfter (At cs h) h cs o s x sm at r sr
       → StopsSymbol cs sp s (end p) → StopsSymbol cs sr s (end r) → (p ≡ r) × (y ≡ x) × (sp ≡ sr)

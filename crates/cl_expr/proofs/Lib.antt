@@ -5,6 +5,7 @@ mod Checks
 mod Climb
 mod Conditions
 mod External
+mod Growth
 mod Heights
 mod Law
 mod Reading

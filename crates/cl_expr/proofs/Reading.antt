@@ -7,7 +7,8 @@ use Rattle.std.specs.Prelude.{true, false}
 use Rattle.std.proofs.lemmas.Bool.{false≢true}
 use Rattle.cl_tree.specs.declared.nonterminal.Nonterminal.{Nonterminal}
 use Rattle.cl_tree.specs.declared.grammar.Symbol.{Symbol}
-use Rattle.cl_tree.specs.declared.grammar.Symbol.TheVariants.{Token, Node}
+use Rattle.cl_tree.specs.declared.grammar.Symbol.TheVariants.{Token, Node, Entry}
+use Rattle.cl_tree.specs.declared.nonterminal.Nonterminal.TheVariants as nt
 use Rattle.cl_tree.specs.declared.grammar.Separator.{Separator}
 use Rattle.cl_expr.specs.declared.table.Edge.{Edge}
 use Rattle.cl_expr.specs.declared.table.Label.{Label}
@@ -21,12 +22,13 @@ use Rattle.cl_tree.specs.declared.grammar.Terminal.{Terminal}
 use Rattle.cl_tree.specs.declared.grammar.Act.{Act}
 use Rattle.cl_expr.proofs.Within.{class_within}
 use Rattle.cl_expr.specs.code.Table.{edges, name_of, bars, scoped, turn, home, corner}
-use Rattle.cl_tree.specs.Derives.{Has, start, end, parts, leaf, hole, piece, last_token, partner_of, is_body, Closed, Opened}
-use Rattle.cl_expr.specs.code.Paths.{name, node, Ended, Reads, ReadsAfter, Path, Kind, At}
+use Rattle.cl_tree.specs.Derives.{Has, start, end, parts, leaf, hole, piece, last_token, is_body, Closed, Opened, bad}
+use Rattle.cl_tree.specs.BadItems.{partner_of, closes_at, bad_end}
+use Rattle.cl_expr.specs.code.Paths.{name, node, Ended, Reads, ReadsAfter, Path, At}
 use Rattle.cl_expr.specs.code.Parses.{AllOf, Tall, Begins, Enters, Halts, StopsSymbol, Parses, SoundPart, Part, Half, Builds}
 use Rattle.cl_expr.proofs.Checks.{some_is}
-use Rattle.cl_expr.proofs.Conditions.{Way, one_edge, more, on, held, shut, home_next, plain_next}
-use Rattle.cl_expr.proofs.Heights.{kind_le, of_kind, path_enters, reads_first, end_piece, tall_zero, tall_parts}
+use Rattle.cl_expr.proofs.Conditions.{Way, one_edge, more, on, held, shut, home_next, plain_next, entry_open, firsts_entry, entry_stops}
+use Rattle.cl_expr.proofs.Heights.{of_kind, tall_le, all_tall_le, tall_piece, tall_bad, end_bad, first_class, kind_flat, of_parts, path_enters, reads_first, end_piece, tall_zero, tall_parts}
 
 none_not : {X : Type 0} {x : X} → None ≡ Some x → ⊥
 none_not e = cc
@@ -35,6 +37,10 @@ all_front : (P : Tree → Type 0) (ps : List Tree) (t : Tree) → AllOf P (ps ++
 all_front P [] t a = tt
 all_front P (p ∷ ps) t a = (a.0, all_front P ps t a.1)
 
+all_append : (P : Tree → Type 0) (ps : List Tree) (t : Tree) → AllOf P ps → P t → AllOf P (ps ++ t ∷ [])
+all_append P [] t a b = (b, tt)
+all_append P (p ∷ ps) t a b = (a.0, all_append P ps t a.1 b)
+
 all_last : (P : Tree → Type 0) (ps : List Tree) (t : Tree) → AllOf P (ps ++ t ∷ []) → P t
 all_last P [] t a = a.0
 all_last P (p ∷ ps) t a = all_last P ps t a.1
@@ -42,6 +48,7 @@ all_last P (p ∷ ps) t a = all_last P ps t a.1
 reads_way : (cs : List Lexeme) (h : ℕ) (x : Symbol) (y : ℕ) (sa : Scope) (at : ℕ) (p : Tree) (sw : Scope) → Reads (At cs h) h cs x y sa at p sw → Way x y
 reads_way cs h (Token c a) y sa at p sw r = r.0
 reads_way cs h (Node g) y sa at p sw r = r.0.0
+reads_way cs h Entry y sa at p sw r = tt
 
 pub way_of : (cs : List Lexeme) (h : ℕ) (b : Option Separator) (x : Symbol) (y : ℕ) (sa : Scope) (at : ℕ) (p : Tree) (sw : Scope) → ReadsAfter (At cs h) h cs b x y sa at p sw → Way x y
 way_of cs h None x y sa at p sw r = reads_way cs h x y sa at p sw r
@@ -51,9 +58,10 @@ pub part_piece : (cs : List Lexeme) (h : ℕ) (sa : Scope) (c : Terminal) (a : A
     → at ≤ last_token cs c at → last_token cs c at < length cs → Part cs h sa None (Token c a) at (Some (record { tree = piece cs c at; place = 0; scope = pass cs sa a at; height = 1 }))
 part_piece cs h sa c a k at token has some closed above within = record {
   found = record {
-    reads = λ n l. (refl, l, refl, (k, token, has), refl, closed);
+    reads = (refl, some, refl, (k, token, has), refl, closed);
     grows = rw (end_piece cs c at) (omega arith);
     within = rw (end_piece cs c at) (omega arith);
+    tall = tall_piece cs c 1 at (omega arith);
     least = one;
     high = some;
   };
@@ -102,7 +110,8 @@ part_node cs h sa g at (Some f) p =
     let o = p.found in
     record {
       found = record {
-        reads = λ n l. ((o.1, kind_le cs f.height n f.place sa f.tree f.scope l o.0.kind, subst (λ (i : ℕ). Opened cs g sa i) (sym o.2) o.3), o.2);
+        reads = ((o.1, o.0.kind, subst (λ (i : ℕ). Opened cs g sa i) (sym o.2) o.3), o.2);
+        tall = o.0.tall;
         grows = subst (λ (i : ℕ). i < end f.tree) o.2 o.0.grows;
         within = o.0.within;
         least = o.0.least;
@@ -111,6 +120,85 @@ part_node cs h sa g at (Some f) p =
       only = λ t y w r s. p.only t y w r.0 r.1 s;
     }
 
+-- an item of a block, or what is none
+module _ (cs : List Lexeme) (h : ℕ) (sa : Scope) (at : ℕ) where
+  pub entry_found : (f : Found) → Parses cs h sa nt.BlockItem at (Some f) → Part cs h sa None Entry at (Some f)
+  entry_found f p =
+      let o = p.found in
+      let here : At cs h nt.BlockItem f.place sa f.tree f.scope = (o.1, o.0.kind, subst (λ (i : ℕ). Opened cs nt.BlockItem sa i) (sym o.2) o.3) in
+      record {
+        found = record {
+          reads = inl (here, o.2);
+          tall = o.0.tall;
+          grows = subst (λ (i : ℕ). i < end f.tree) o.2 o.0.grows;
+          within = o.0.within;
+          least = o.0.least;
+          high = o.0.high;
+        };
+        only = λ t y w r s. go here o.2 t y w r;
+      }
+    where
+      go : At cs h nt.BlockItem f.place sa f.tree f.scope → start f.tree ≡ at → (t : Tree) (y : ℕ) (w : Scope) → ReadsAfter (At cs h) h cs None Entry y sa at t w → (f.tree ≡ t) × (f.place ≡ y) × (f.scope ≡ w)
+      go here from t y w (inl r) = p.only t y w r.0 r.1 (λ k token has. entry_stops k has)
+      go here from t y w (inr r) = absurd (r.5 f.tree f.place f.scope here from)
+
+  entry_none : ((t : Tree) (y : ℕ) (w : Scope) → ReadsAfter (At cs h) h cs None Entry y sa at t w → ⊥) → Part cs h sa None Entry at None
+  entry_none not = record { found = tt; only = λ t y w r s. not t y w r }
+
+  pub entry_past : class_at cs sa at ≡ None → Part cs h sa None Entry at None
+  entry_past past = entry_none go
+    where
+      go : (t : Tree) (y : ℕ) (w : Scope) → ReadsAfter (At cs h) h cs None Entry y sa at t w → ⊥
+      go t y w (inl r) = (let f = first_class cs h nt.BlockItem y sa t w r.0 in none_not (sym past ∙ subst (λ (i : ℕ). class_at cs sa i ≡ Some f.class) r.1 f.token))
+      go t y w (inr r) = none_not (sym past ∙ r.4.1)
+
+  pub entry_brace : (k : Class) → class_at cs sa at ≡ Some k → k ≡ cl.RightBrace → Part cs h sa None Entry at None
+  entry_brace k token brace = entry_none go
+    where
+      go : (t : Tree) (y : ℕ) (w : Scope) → ReadsAfter (At cs h) h cs None Entry y sa at t w → ⊥
+      go t y w (inl r) = (
+          let f = first_class cs h nt.BlockItem y sa t w r.0 in
+          let same : k ≡ f.class = some_is (sym token ∙ subst (λ (i : ℕ). class_at cs sa i ≡ Some f.class) r.1 f.token) in
+          entry_open f.class (firsts_entry nt.BlockItem f.class f.begins) (sym same ∙ brace))
+      go t y w (inr r) = (let same : k ≡ r.4.0 = some_is (sym token ∙ r.4.1) in r.4.2 (sym same ∙ brace))
+
+  module _ (p : Parses cs h sa nt.BlockItem at None) where
+    pub entry_closed : closes_at cs at ≡ true → Part cs h sa None Entry at None
+    entry_closed closes = entry_none go
+      where
+        go : (t : Tree) (y : ℕ) (w : Scope) → ReadsAfter (At cs h) h cs None Entry y sa at t w → ⊥
+        go t y w (inl r) = p.only t y w r.0 r.1 (λ k token has. entry_stops k has)
+        go t y w (inr r) = false≢true (sym r.4.3 ∙ closes)
+
+    pub entry_bad : (k : Class) → class_at cs sa at ≡ Some k → (k ≡ cl.RightBrace → ⊥) → closes_at cs at ≡ false → 1 ≤ h → at < bad_end cs at → bad_end cs at ≤ length cs
+        → Part cs h sa None Entry at (Some (record { tree = bad at (bad_end cs at); place = 0; scope = sa; height = 1 }))
+    entry_bad k token not closes some grows within = record {
+      found = record {
+        reads = inr (refl, some, refl, refl, (k, token, not, closes), λ t z v a e. p.only t z v a e (λ k token has. entry_stops k has));
+        tall = tall_bad 1 at (bad_end cs at) (omega arith);
+        grows = subst (λ (i : ℕ). at < i) (sym (end_bad at (bad_end cs at))) grows;
+        within = subst (λ (i : ℕ). i ≤ length cs) (sym (end_bad at (bad_end cs at))) within;
+        least = one;
+        high = some;
+      };
+      only = λ t y w r s. go t y w r;
+    }
+      where
+        one : (k : ℕ) → Tall k (bad at (bad_end cs at)) → 1 ≤ k
+        one zero a = absurd (tall_zero (bad at (bad_end cs at)) a)
+        one (suc k) a = omega arith
+
+        go : (t : Tree) (y : ℕ) (w : Scope) → ReadsAfter (At cs h) h cs None Entry y sa at t w → (bad at (bad_end cs at) ≡ t) × (0 ≡ y) × (sa ≡ w)
+        go t y w (inl r) = absurd (p.only t y w r.0 r.1 (λ k token has. entry_stops k has))
+        go t y w (inr r) = (sym r.2, sym r.0, sym r.3)
+
+pub entry_flat : (cs : List Lexeme) (sa : Scope) (at : ℕ) → Part cs 0 sa None Entry at None
+entry_flat cs sa at = record { found = tt; only = λ t y w r s. go t y w r }
+  where
+    go : (t : Tree) (y : ℕ) (w : Scope) → ReadsAfter (At cs 0) 0 cs None Entry y sa at t w → ⊥
+    go t y w (inl r) = kind_flat cs y sa t w r.0.1
+    go t y w (inr r) = (let l : 1 ≤ 0 = r.1 in absurd (omega arith))
+
 -- a part after a separator
 pub part_after : (cs : List Lexeme) (h : ℕ) (sa : Scope) (b : Separator) (x : Symbol) (at : ℕ) (o : Option Found) → class_at cs sa at ≡ Some b.class
     → Part cs h (pass cs sa b.act at) None x (at + 1) o → Part cs h sa (Some b) x at o
@@ -118,7 +206,7 @@ part_after cs h sa b x at None token p = record { found = tt; only = λ t y w r 
 part_after cs h sa b x at (Some f) token p =
     let o = p.found in
     record {
-      found = record { reads = λ n l. (token, o.reads n l); grows = (let g : at + 1 < end f.tree = o.grows in omega arith); within = o.within; least = o.least; high = o.high };
+      found = record { reads = (token, o.reads); tall = o.tall; grows = (let g : at + 1 < end f.tree = o.grows in omega arith); within = o.within; least = o.least; high = o.high };
       only = λ t y w r s. p.only t y w r.1 s;
     }
 
@@ -177,6 +265,7 @@ module _ (cs : List Lexeme) (h : ℕ) (sa s0 : Scope) (q0 : ℕ) (ps0 : List Tre
     stops_part : (s : Symbol) → e.symbol ≡ s → (y : ℕ) (sx : Scope) (at to : ℕ) (rest : List Tree) (z : ℕ) (sv : Scope) (n : Label) → Way s y
         → Path (At cs h) h cs (turn e.next y) sx at to rest z sv → Ended cs sv z to n → Halts cs sv q to → StopsSymbol cs sx s at
     stops_part (Token c a) is y sx at to rest z sv n w p ended halts = tt
+    stops_part Entry is y sx at to rest z sv n w p ended halts = tt
     stops_part (Node g) is y sx at to [] z sv n w p ended halts = λ k' t goes.
         halts k' (at_end sx sv at to k' p.0 p.2 t)
         (held q e g y k' n has is w (subst (λ (v : ℕ). name_of v ≡ Some n) (sym p.1) ended.0)
@@ -226,16 +315,17 @@ module _ (cs : List Lexeme) (h : ℕ) (sa s0 : Scope) (q0 : ℕ) (ps0 : List Tre
         let g : mid < end f.tree = s.grows in
         let i : f.height ≤ h = s.high in
         let i' : height ≤ h = r.half.high in
-        let way : Way e.symbol f.place = way_of cs f.height e.before e.symbol f.place sm mid f.tree f.scope (s.reads f.height (omega arith)) in
+        let way : Way e.symbol f.place = way_of cs h e.before e.symbol f.place sm mid f.tree f.scope s.reads in
         let home_is : home (turn e.next f.place) ≡ home q = home_next q e f.place has way in
         let home_is' : home q' ≡ home q = ap home place ∙ home_is in
         record {
           half = record {
-            joins = λ n to rest z sv le p. (
-                let p' : Path (At cs n) n cs (turn e.next f.place) f.scope (end f.tree) to rest z sv = subst (λ (v : ℕ). Path (At cs n) n cs v f.scope (end f.tree) to rest z sv) place p in
-                let j : Path (At cs n) n cs (home q) sa from to (ps ++ f.tree ∷ rest) z sv = r.half.joins n to (f.tree ∷ rest) z sv (omega arith) (e, f.place, f.scope, has, s.reads n (omega arith), p') in
-                subst (λ (v : ℕ). Path (At cs n) n cs v sa from to ((ps ++ f.tree ∷ []) ++ rest) z sv) (sym home_is')
-                (subst (λ (v : List Tree). Path (At cs n) n cs (home q) sa from to v z sv) (sym (append_assoc ps (f.tree ∷ []) rest)) j));
+            joins = λ to rest z sv p. (
+                let p' : Path (At cs h) h cs (turn e.next f.place) f.scope (end f.tree) to rest z sv = subst (λ (v : ℕ). Path (At cs h) h cs v f.scope (end f.tree) to rest z sv) place p in
+                let j : Path (At cs h) h cs (home q) sa from to (ps ++ f.tree ∷ rest) z sv = r.half.joins to (f.tree ∷ rest) z sv (e, f.place, f.scope, has, s.reads, p') in
+                subst (λ (v : ℕ). Path (At cs h) h cs v sa from to ((ps ++ f.tree ∷ []) ++ rest) z sv) (sym home_is')
+                (subst (λ (v : List Tree). Path (At cs h) h cs (home q) sa from to v z sv) (sym (append_assoc ps (f.tree ∷ []) rest)) j));
+            tall = all_append (Tall m) ps f.tree (all_tall_le height m ps (omega arith) r.half.tall) (tall_le f.height m f.tree (omega arith) s.tall);
             least = λ k' a. (
                 let b : height ≤ k' = r.half.least k' (all_front (Tall k') ps f.tree a) in
                 let d : f.height ≤ k' = s.least k' (all_last (Tall k') ps f.tree a) in
@@ -296,14 +386,15 @@ module _ (cs : List Lexeme) (h : ℕ) (sa s0 : Scope) (q0 : ℕ) (ps0 : List Tre
         → Builds cs h sa s0 q0 ps0 from mid0 (Some (record { tree = node n from mid ps; place = q; scope = leave (scoped q) sa sm; height = height + 1 }))
     reading_end n unnamed ended =
         let low : height ≤ h = r.half.high in
-        let path : Path (At cs height) height cs (home q) sa from mid (ps ++ []) q sm = r.half.joins height mid [] q sm (omega arith) (refl, refl, refl) in
-        let path' : Path (At cs height) height cs (home q) sa from mid ps q sm = subst (λ (v : List Tree). Path (At cs height) height cs (home q) sa from mid v q sm) (append-nil ps) path in
+        let path : Path (At cs h) h cs (home q) sa from mid (ps ++ []) q sm = r.half.joins mid [] q sm (refl, refl, refl) in
+        let path' : Path (At cs h) h cs (home q) sa from mid ps q sm = subst (λ (v : List Tree). Path (At cs h) h cs (home q) sa from mid v q sm) (append-nil ps) path in
         let strict : mid0 < mid = further r.ahead in
         record {
           found = (
             record {
-              kind = subst (λ (i : ℕ). Kind cs i q sa (node n from mid ps) (leave (scoped q) sa sm)) (omega arith)
-                  (of_kind cs height q sa (node n from mid ps) (leave (scoped q) sa sm) sm refl (whole_ended) (whole_path path'));
+              kind = of_kind cs h q sa (node n from mid ps) (leave (scoped q) sa sm) sm refl (whole_ended) (whole_path path');
+              tall = subst (λ (i : ℕ). Tall i (node n from mid ps)) (omega arith)
+                  (of_parts height (node n from mid ps) (subst (λ (x : Tree-F Tree). AllOf (Tall height) x.parts) (sym rolled) r.half.tall));
               grows = subst (λ (x : Tree-F Tree). x.from < x.to) (sym rolled) (omega (arith, r.above0));
               within = subst (λ (x : Tree-F Tree). x.to ≤ length cs) (sym rolled) r.half.within;
               least = whole_least;
@@ -327,8 +418,8 @@ module _ (cs : List Lexeme) (h : ℕ) (sa s0 : Scope) (q0 : ℕ) (ps0 : List Tre
         whole_ended : Ended cs sm q (end (node n from mid ps)) (name (node n from mid ps))
         whole_ended = subst (λ (x : Tree-F Tree). Ended cs sm q x.to (record { rule = x.rule; choice = x.choice })) (sym rolled) ended
 
-        whole_path : Path (At cs height) height cs (home q) sa from mid ps q sm → Path (At cs height) height cs (home q) sa (start (node n from mid ps)) (end (node n from mid ps)) (parts (node n from mid ps)) q sm
-        whole_path p = subst (λ (x : Tree-F Tree). Path (At cs height) height cs (home q) sa x.from x.to x.parts q sm) (sym rolled) p
+        whole_path : Path (At cs h) h cs (home q) sa from mid ps q sm → Path (At cs h) h cs (home q) sa (start (node n from mid ps)) (end (node n from mid ps)) (parts (node n from mid ps)) q sm
+        whole_path p = subst (λ (x : Tree-F Tree). Path (At cs h) h cs (home q) sa x.from x.to x.parts q sm) (sym rolled) p
 
         whole_least : (k : ℕ) → Tall k (node n from mid ps) → height + 1 ≤ k
         whole_least zero a = absurd (tall_zero (node n from mid ps) a)

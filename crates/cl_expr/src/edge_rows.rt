@@ -191,7 +191,7 @@ static EDGES: [Edge; 462] = rows! {
     edge!(token!(is!(Colon)), 406), edge!(node!(Statement), 407), edge!(node!(ConstantExpression), 409),
     edge!(token!(is!(Colon)), 410), edge!(node!(Statement), 411), edge!(token!(is!(Colon)), 413), edge!(node!(Statement), 414),
     edge!(act!(is!(LeftBrace), Open), 416), edge!(node!(BlockItemList), 417), edge!(act!(is!(RightBrace), Close), 418),
-    edge!(act!(is!(RightBrace), Close), 418), edge!(node!(BlockItem), 420), edge!(node!(BlockItem), 420),
+    edge!(act!(is!(RightBrace), Close), 418), edge!(Symbol::Entry, 420), edge!(Symbol::Entry, 420),
     edge!(node!(UnlabelledExpression), 422), edge!(token!(is!(Semicolon)), 423), edge!(token!(is!(Semicolon)), 423),
     edge!(token!(is!(If)), 425), edge!(token!(is!(Switch)), 432), edge!(token!(Terminal::Open), 426),
     edge!(node!(Expression), 427), edge!(act!(is!(RightParen), Open), 428), edge!(node!(Statement), 429),

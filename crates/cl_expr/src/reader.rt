@@ -2,9 +2,11 @@
 
 ghost use Rattle.std.specs.Prelude.{◌≡◌, ◌<◌, ◌≤◌, ◌+◌, ◌-◌, ◌^◌, Some, None, true, false, IfOk, IfSome, length, slice_get, max, suc, [], ◌∷◌};
 ghost use Rattle.cl_tree.specs.Scopes as n;
-ghost use Rattle.cl_tree.specs.Derives.{Has, start, end, leaf, hole, is_body as body};
+ghost use Rattle.cl_tree.specs.Derives.{Has, start, end, leaf, hole, bad, is_body as body};
 ghost use Rattle.cl_tree.specs.declared.class.Class.{Class};
-ghost use Rattle.cl_tree.specs.declared.grammar.Symbol.TheVariants.{Token};
+ghost use Rattle.cl_tree.specs.declared.class.Class.TheVariants as cl;
+ghost use Rattle.cl_tree.specs.declared.nonterminal.Nonterminal.TheVariants as nt;
+ghost use Rattle.cl_tree.specs.declared.grammar.Symbol.TheVariants.{Token, Entry};
 ghost use Rattle.cl_expr.specs.code.Table as t;
 ghost use Rattle.cl_expr.specs.code.Parses.{Parses, Nests, Part, Half, Builds, Opens, Steps, Climbs, GoesOn, Sound, Begins, Enters};
 
@@ -15,7 +17,8 @@ use crate::scan::{
 use crate::table::Edge;
 use cl_base::{List, Mem};
 use cl_tree::{
-    Act, Class, Lexeme, Nonterminal, Rule, Scope, Separator, Symbol, Terminal, Tree, class_at, pass,
+    Act, Class, Lexeme, Nonterminal, Rule, Scope, Separator, Symbol, Terminal, Tree, bad_end,
+    class_at, closes_at, pass,
 };
 use std::alloc::Global;
 
@@ -60,6 +63,18 @@ fn hole_tree(alloc: Global, from: u32, last: u32) -> Tree
     }
 }
 
+fn bad_tree(alloc: Global, from: u32, to: u32) -> Tree
+    ensures { result ≡ bad from to }
+{
+    Tree {
+        rule: Rule::Bad,
+        choice: 0,
+        from,
+        to,
+        parts: List::new(alloc),
+    }
+}
+
 fn one(alloc: Global, a: Tree) -> Mem<List<Tree>>
     ensures { IfOk result (λ parts. parts ≡ a ∷ []) }
 {
@@ -90,11 +105,53 @@ pub struct Grammar<'a, F> {
 }
 
 impl<F: Fn(Global, &[Lexeme], &Scope, Nonterminal, u32, u32) -> Mem<Option<Found>>> Grammar<'_, F> {
-    fn nonterminal(&self, scope: Scope, goal: Nonterminal, at: u32) -> Mem<Option<Found>>
+    fn nonterminal(&self, scope: &Scope, goal: Nonterminal, at: u32) -> Mem<Option<Found>>
         requires nests { Nests self.now.tokens.now self.now.depth (F.pre self.now.parse) (F.post self.now.parse) }
-        ensures { IfOk result (Parses self.now.tokens.now self.now.depth scope goal at) }
+        ensures { IfOk result (Parses self.now.tokens.now self.now.depth scope.now goal at) }
     {
-        (self.parse)(self.alloc, self.tokens, &scope, goal, self.depth, at)
+        (self.parse)(self.alloc, self.tokens, scope, goal, self.depth, at)
+    }
+
+    /// An item of a block, or what is none.
+    fn entry(&self, scope: Scope, at: u32) -> Mem<Option<Found>>
+        requires nests { Nests self.now.tokens.now self.now.depth (F.pre self.now.parse) (F.post self.now.parse) }
+        ensures { IfOk result (Part self.now.tokens.now self.now.depth scope None Entry at) }
+    {
+        if self.depth == 0 {
+            return Ok(None);
+        }
+        let Some(class) = class_at(self.tokens, &scope, at) else {
+            return Ok(None);
+        };
+        let brace = same_class(class, Class::RightBrace);
+        if brace {
+            return Ok(None);
+        }
+        match self.nonterminal(&scope, Nonterminal::BlockItem, at)? {
+            Some(item) => Ok(Some(item)),
+            None => self.bad_entry(scope, at),
+        }
+    }
+
+    /// What is no item of a block.
+    fn bad_entry(&self, scope: Scope, at: u32) -> Mem<Option<Found>>
+        requires nests { Nests self.now.tokens.now self.now.depth (F.pre self.now.parse) (F.post self.now.parse) }
+        requires some { 1 ≤ self.now.depth }
+        requires none { Parses self.now.tokens.now self.now.depth scope nt.BlockItem at None }
+        requires token { (k : Class) × (n.class_at self.now.tokens.now scope at ≡ Some k) × (k ≡ cl.RightBrace → ⊥) }
+        ensures { IfOk result (Part self.now.tokens.now self.now.depth scope None Entry at) }
+    {
+        let closes = closes_at(self.tokens, at as usize);
+        if closes {
+            return Ok(None);
+        }
+        let to = bad_end(self.tokens, at);
+        Ok(Some(Found {
+            tree: bad_tree(self.alloc, at, to),
+            place: 0,
+            scope,
+            height: 1,
+        }))
     }
 
     /// The token that a terminal takes.
@@ -175,7 +232,8 @@ impl<F: Fn(Global, &[Lexeme], &Scope, Nonterminal, u32, u32) -> Mem<Option<Found
     {
         match symbol {
             Symbol::Token(terminal, act) => self.piece(scope, terminal, act, at),
-            Symbol::Node(goal) => self.nonterminal(scope, goal, at),
+            Symbol::Node(goal) => self.nonterminal(&scope, goal, at),
+            Symbol::Entry => self.entry(scope, at),
         }
     }
 

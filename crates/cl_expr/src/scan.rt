@@ -3,6 +3,7 @@
 ghost use Rattle.std.specs.Prelude.{◌≡◌, ◌<◌, Some, None, true, false, IfSome, length, slice_get, ℕ};
 ghost use Rattle.cl_tree.specs.Scopes as n;
 ghost use Rattle.cl_tree.specs.Grammar.{takes};
+ghost use Rattle.cl_tree.specs.BadItems.{partner_of};
 ghost use Rattle.cl_tree.specs.Derives as d;
 ghost use Rattle.cl_tree.specs.Derives.{Has};
 ghost use Rattle.cl_tree.specs.declared.class.Class.{Class};
@@ -89,7 +90,7 @@ pub fn is_body(terminal: Terminal) -> bool
 
 /// The number of a token's partner; 0 past the end.
 pub fn partner_at(tokens: &[Lexeme], at: u32) -> u32
-    ensures { result ≡ d.partner_of (slice_get tokens.now at) }
+    ensures { result ≡ partner_of (slice_get tokens.now at) }
 {
     match tokens.get(at as usize) {
         Some(token) => token.partner,
@@ -122,6 +123,15 @@ pub fn is_shunned(tokens: &[Lexeme], scope: &Scope, goal: Nonterminal, at: u32) 
     }
 }
 
+/// Whether tokens of a class begin an item of a block or what is none: all but `}`.
+fn begins_entry(class: Class) -> bool
+    ensures yes { result ≡ true → Has t.entry_classes class }
+    ensures no { result ≡ false → Has t.entry_classes class → ⊥ }
+{
+    let brace = same_class(class, Class::RightBrace);
+    !brace
+}
+
 /// Whether tokens of a class begin what a symbol stands for.
 fn begins_symbol(symbol: Symbol, class: Class) -> bool
     ensures yes { result ≡ true → BeginsSymbol symbol class }
@@ -130,6 +140,7 @@ fn begins_symbol(symbol: Symbol, class: Class) -> bool
     match symbol {
         Symbol::Token(terminal, _) => taken(terminal, class),
         Symbol::Node(goal) => has_class(firsts(goal), class),
+        Symbol::Entry => begins_entry(class),
     }
 }
 

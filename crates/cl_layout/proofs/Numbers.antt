@@ -1,7 +1,7 @@
 -- Multiples of a unit, and bits within one.
-use Rattle.std.proofs.Common.{◌≡◌, ◌≤◌, ◌<◌, ◌+◌, ◌-◌, ◌*◌, ℕ, Bool, true, false, ◌&&◌, refl, sym, ap, ◌∙◌, arith, rules}
+use Rattle.std.proofs.Common.{◌≡◌, ◌≤◌, ◌<◌, ◌+◌, ◌-◌, ◌*◌, ◌^◌, ℕ, Bool, true, false, ◌&&◌, refl, sym, ap, ◌∙◌, arith, rules}
 use Rattle.std.specs.Prelude.{◌/◌, ◌%◌, ◌==◌, if◌then◌else◌, nat_lt, nat_le}
-use Rattle.std.proofs.Math.Nat.{lt-div-mul-add}
+use Rattle.std.proofs.Math.Nat.{lt-div-mul-add, mod-eq_of_lt}
 use Rattle.std.proofs.lemmas.Grind.{common_steps}
 use Rattle.std.proofs.lemmas.Nat.{div-add-mod', div-mul-add}
 use Rattle.cl_layout.specs.Layouts.{field_start, round_up}
@@ -87,3 +87,7 @@ rounded_size bits align some =
     let up : round_up bits (8 * align) ≡ count * (8 * align) = round_up_multiple bits (8 * align) (omega arith) in
     let behind : bits ≤ round_up bits (8 * align) = round_up_behind bits (8 * align) in
     eighths bits (round_up bits (8 * align)) count align up behind
+
+-- 64 bits are what they are modulo 2 ^ 64
+pub whole_bits : (n : ℕ) → n < 2 ^ 64 → n % 2 ^ 64 ≡ n
+whole_bits n h = mod-eq_of_lt h

@@ -1,6 +1,6 @@
 //! Layouts of types, where that of the structure or union that they are made of is known (N1570 6.2.5, 6.2.8).
 
-ghost use Rattle.std.specs.Prelude.{◌≡◌, IfOk};
+ghost use Rattle.std.specs.Prelude.{◌≡◌, ◌≤◌, IfOk};
 ghost use Rattle.cl_layout.specs.Layouts.{array_layout, bytes, of_basic, over, repeated, scalar, tagged, unsized, within};
 
 use cl_types::{Basic, CType, Length, TagWord, basic_of};
@@ -18,8 +18,10 @@ pub enum Layout {
 /// The most bytes of an object.
 pub const LARGEST: u64 = 0x7fff_ffff_ffff_ffff;
 
-fn bytes(basic: Basic) -> u64
-    ensures { result ≡ bytes basic }
+/// The size of an arithmetic type, in bytes.
+pub fn bytes(basic: Basic) -> u64
+    ensures value { result ≡ bytes basic }
+    ensures small { result ≤ 16 }
 {
     match basic {
         Basic::Bool => 1,

@@ -9,7 +9,7 @@ use Rattle.cl_macro.specs.Turns.{close_at, ends, parts, depth_after, parted}
 use Rattle.cl_macro.specs.Words.{fresh}
 use Rattle.cl_macro.proofs.Scans.{Skips, Counts, skips_on, skips_found, skips_end, counts_on, counts_part, counts_end}
 
-some_word : (o : Option Word) (t : PpToken) → Some t ≡ option_map token_of o → (w : Word) × (o ≡ Some w) × (w.token ≡ t)
+pub some_word : (o : Option Word) (t : PpToken) → Some t ≡ option_map token_of o → (w : Word) × (o ≡ Some w) × (w.token ≡ t)
 some_word None t e = cc
 some_word (Some w) t e = (w, refl, cc)
 

@@ -1,103 +1,100 @@
 -- The arguments as they are taken.
-use Rattle.std.proofs.Common.{◌≡◌, ℕ, zero, suc, ◌+◌, ◌-◌, ◌≤◌, ◌<◌, Bool, true, false, List, [], ◌∷◌, ◌++◌, length, drop, take, map, Some, refl, sym, ap, ◌∙◌, arith, append_assoc}
-use Rattle.std.specs.Prelude.{if◌then◌else◌}
+use Rattle.std.proofs.Common.{◌≡◌, ℕ, suc, ◌+◌, ◌-◌, ◌≤◌, ◌<◌, Bool, true, false, List, [], ◌∷◌, ◌++◌, length, drop, take, map, Some, None, refl, sym, ap, ◌∙◌, arith, append_assoc, length-drop}
+use Rattle.std.specs.Prelude.{if◌then◌else◌, slice_range}
 use Rattle.std.specs.List.{slice_get}
+use Rattle.std.proofs.lemmas.Option.{slice_get_within}
 use Rattle.std.proofs.lemmas.Grind.{common_steps}
 use Rattle.cl_base.specs.declared.macros.Macro.{Macro}
 use Rattle.cl_macro.specs.declared.word.Word.{Word}
-use Rattle.cl_macro.specs.declared.level.Level.{Level}
+use Rattle.cl_macro.specs.code.Segments.{Opens}
 use Rattle.cl_macro.specs.Words.{taken}
-use Rattle.cl_macro.specs.Turns.{parts, parted, depth_after, before_first, args_of, args_by, arguments}
-use Rattle.cl_macro.specs.Levels.{ahead, Passes}
-use Rattle.cl_macro.proofs.Lists.{drop_here}
+use Rattle.cl_macro.specs.Turns.{close_at, parts, parted, depth_after, args_of, args_by, arguments}
+use Rattle.cl_macro.proofs.Closing.{close_within}
+use Rattle.cl_macro.proofs.Hopping.{drop_there, glued, glued_glued, hopped, no_part}
+use Rattle.cl_macro.proofs.Lists.{drop_here, drop_past}
 use Rattle.cl_macro.proofs.Scans.{parted_some}
 use Rattle.cl_macro.proofs.Walking.{append_nil}
-use Rattle.cl_macro.proofs.Passing.{passes_on, next_one}
+use Rattle.cl_macro.proofs.Windows.{get_least, range_by, range_none}
 
--- the argument that is begun goes on with the first of these
-abbrev pub glued : List Word → List (List Word) → List (List Word)
-glued arg [] = arg ∷ []
-glued arg (p ∷ ps) = (arg ++ p) ∷ ps
-
-pub record Taking (first : Level) (count most i : ℕ) (args : List (List Word)) (arg : List Word) (commas depth : ℕ) (level : Level) : Type 0 where
-  pub passes : Passes i first level
-  pub out : level.out ≡ first.out
+-- the arguments before the place `i` are parted, and the one that is begun there begins at `from`
+pub record Parting (ws : List Word) (most i from depth commas : ℕ) (args : List (List Word)) : Type 0 where
+  pub order : from ≤ i
+  pub within : i ≤ length ws
   pub deep : depth ≤ i
-  pub parting : parted 0 most (map taken (take count (ahead first))) ≡ args ++ glued arg (parted depth commas (drop i (map taken (take count (ahead first)))))
+  pub parting : parted 0 most ws ≡ args ++ glued (slice_range ws from i) (parted depth commas (drop i ws))
 
 glued_nil : (ps : List (List Word)) → 1 ≤ length ps → ps ≡ glued [] ps
 glued_nil [] h = absurd (omega arith)
 glued_nil (p ∷ ps) h = refl
 
-get_take : (xs : List Word) (n i : ℕ) → i < n → slice_get (take n xs) i ≡ slice_get xs i
-get_take xs zero i h = absurd (omega arith)
-get_take [] (suc n) i h = refl
-get_take (x ∷ xs) (suc n) zero h = refl
-get_take (x ∷ xs) (suc n) (suc i) h = get_take xs n i (omega arith)
-
-get_map : (xs : List Word) (i : ℕ) (w : Word) → slice_get xs i ≡ Some w → slice_get (map taken xs) i ≡ Some (taken w)
-get_map [] i w e = cc
-get_map (x ∷ xs) zero w e = cc
-get_map (x ∷ xs) (suc i) w e = get_map xs i w e
-
-glued_before : (arg : List Word) (w : Word) (ps : List (List Word)) → glued arg (before_first w ps) ≡ glued (arg ++ w ∷ []) ps
-glued_before arg w [] = refl
-glued_before arg w (p ∷ ps) = ap (λ x. x ∷ ps) (sym (append_assoc arg (w ∷ []) p))
+pub parting_none : (ws : List Word) (most : ℕ) → Parting ws most 0 0 0 most []
+parting_none ws most = record { order = omega arith; within = omega arith; deep = omega arith; parting = glued_nil (parted 0 most ws) (parted_some 0 most ws) }
 
 part_yes : (w : Word) (ws : List Word) (depth commas : ℕ) → parts w depth commas ≡ true → parted depth commas (w ∷ ws) ≡ [] ∷ parted depth (commas - 1) ws
 part_yes w ws depth commas e = rw e refl
 
-part_no : (w : Word) (ws : List Word) (depth commas : ℕ) → parts w depth commas ≡ false → parted depth commas (w ∷ ws) ≡ before_first w (parted (depth_after w depth) commas ws)
-part_no w ws depth commas e = rw e refl
+at_word : (ws : List Word) (most i from depth commas : ℕ) (args : List (List Word)) (w : Word) → slice_get ws i ≡ Some w → Parting ws most i from depth commas args
+    → parted 0 most ws ≡ args ++ glued (slice_range ws from i) (parted depth commas (w ∷ drop (i + 1) ws))
+at_word ws most i from depth commas args w g p = p.parting ∙ ap (λ xs. args ++ glued (slice_range ws from i) (parted depth commas xs)) (drop_here ws i w g)
 
-at_here : (first level : Level) (count i : ℕ) (w : Word) → i < count → Passes i first level → slice_get (ahead level) 0 ≡ Some w
-    → slice_get (map taken (take count (ahead first))) i ≡ Some (taken w)
-at_here first level count i w h p g = get_map _ i w (get_take (ahead first) count i h ∙ next_one i first level w p g)
+pub parting_part : (ws : List Word) (most i from depth commas : ℕ) (args : List (List Word)) (w : Word) → slice_get ws i ≡ Some w → parts w depth commas ≡ true
+    → Parting ws most i from depth commas args → Parting ws most (i + 1) (i + 1) depth (commas - 1) (args ++ slice_range ws from i ∷ [])
+parting_part ws most i from depth commas args w g e p =
+    let h : i < length ws = slice_get_within ws i w g in
+    let d : depth ≤ i = p.deep in
+    let rest : List (List Word) = parted depth (commas - 1) (drop (i + 1) ws) in record {
+      order = omega arith;
+      within = omega arith;
+      deep = omega arith;
+      parting = at_word ws most i from depth commas args w g p ∙ ap (λ ps. args ++ glued (slice_range ws from i) ps) (part_yes w (drop (i + 1) ws) depth commas e)
+          ∙ ap (λ a. args ++ a ∷ rest) (append_nil (slice_range ws from i)) ∙ sym (append_assoc args (slice_range ws from i ∷ []) rest)
+          ∙ ap (λ ps. (args ++ slice_range ws from i ∷ []) ++ ps) (glued_nil rest (parted_some depth (commas - 1) (drop (i + 1) ws)))
+          ∙ sym (ap (λ a. (args ++ slice_range ws from i ∷ []) ++ glued a rest) (range_none ws (i + 1)));
+    }
 
-pub taking_none : (first : Level) (count most : ℕ) (none : Passes 0 first first) → Taking first count most 0 [] [] most 0 first
-taking_none first count most none = record {
-  passes = none;
-  out = refl;
-  deep = omega arith;
-  parting = glued_nil _ (parted_some 0 most (map taken (take count (ahead first))));
-}
+one_here : (ws : List Word) (i : ℕ) (w : Word) → slice_get ws i ≡ Some w → take 1 (drop i ws) ≡ w ∷ []
+one_here ws i w g = ap (take 1) (drop_here ws i w g)
 
-pub taking_part : (first : Level) (count most i : ℕ) (args : List (List Word)) (arg : List Word) (commas depth : ℕ) (level : Level) (w : Word) (level2 : Level)
-    → i < count → Taking first count most i args arg commas depth level → slice_get (ahead level) 0 ≡ Some w → parts (taken w) depth commas ≡ true
-    → Passes 1 level level2 → level2.out ≡ level.out
-    → Taking first count most (i + 1) (args ++ arg ∷ []) [] (commas - 1) depth level2
-taking_part first count most i args arg commas depth level w level2 h t g e p o = record {
-  passes = passes_on i first level level2 t.passes p;
-  out = o ∙ t.out;
-  deep = let d = t.deep in omega arith;
-  parting = t.parting ∙ ap (λ ws. args ++ glued arg (parted depth commas ws)) (drop_here _ i (taken w) (at_here first level count i w h t.passes g))
-      ∙ ap (λ ps. args ++ glued arg ps) (part_yes (taken w) _ depth commas e)
-      ∙ ap (λ x. args ++ x ∷ parted depth (commas - 1) (drop (i + 1) (map taken (take count (ahead first))))) (append_nil arg)
-      ∙ ap (λ ps. args ++ arg ∷ ps) (glued_nil _ (parted_some depth (commas - 1) (drop (i + 1) (map taken (take count (ahead first))))))
-      ∙ sym (append_assoc args (arg ∷ []) _);
-}
+pub parting_on : (ws : List Word) (most i from depth commas : ℕ) (args : List (List Word)) (w : Word) → slice_get ws i ≡ Some w → parts w depth commas ≡ false
+    → depth_after w depth ≤ depth + 1 → Parting ws most i from depth commas args → Parting ws most (i + 1) from (depth_after w depth) commas args
+parting_on ws most i from depth commas args w g e k p =
+    let h : i < length ws = slice_get_within ws i w g in
+    let d : depth ≤ i = p.deep in
+    let o : from ≤ i = p.order in record {
+      order = omega arith;
+      within = omega arith;
+      deep = omega arith;
+      parting = at_word ws most i from depth commas args w g p ∙ ap (λ ps. args ++ glued (slice_range ws from i) ps) (no_part w (drop (i + 1) ws) depth commas e)
+          ∙ ap (λ ps. args ++ ps) (glued_glued (slice_range ws from i) (w ∷ []) (parted (depth_after w depth) commas (drop (i + 1) ws)))
+          ∙ ap (λ a. args ++ glued a (parted (depth_after w depth) commas (drop (i + 1) ws))) (ap (λ a. slice_range ws from i ++ a) (sym (one_here ws i w g)) ∙ range_by ws from i 1 o);
+    }
 
-pub taking_on : (first : Level) (count most i : ℕ) (args : List (List Word)) (arg : List Word) (commas depth : ℕ) (level : Level) (w : Word) (level2 : Level) (depth2 : ℕ)
-    → i < count → Taking first count most i args arg commas depth level → slice_get (ahead level) 0 ≡ Some w → parts (taken w) depth commas ≡ false
-    → Passes 1 level level2 → level2.out ≡ level.out → depth2 ≡ depth_after (taken w) depth → depth2 ≤ depth + 1
-    → Taking first count most (i + 1) args (arg ++ taken w ∷ []) commas depth2 level2
-taking_on first count most i args arg commas depth level w level2 depth2 h t g e p o ed k = record {
-  passes = passes_on i first level level2 t.passes p;
-  out = o ∙ t.out;
-  deep = let d = t.deep in omega arith;
-  parting = t.parting ∙ ap (λ ws. args ++ glued arg (parted depth commas ws)) (drop_here _ i (taken w) (at_here first level count i w h t.passes g))
-      ∙ ap (λ ps. args ++ glued arg ps) (part_no (taken w) _ depth commas e)
-      ∙ ap (λ ps. args ++ ps) (glued_before arg (taken w) _)
-      ∙ ap (λ d. args ++ glued (arg ++ taken w ∷ []) (parted d commas (drop (i + 1) (map taken (take count (ahead first)))))) (sym ed);
-}
+take_here : (ws : List Word) (i n : ℕ) (w : Word) → slice_get ws i ≡ Some w → w ∷ take (n + 1) (drop (i + 1) ws) ≡ take (n + 2) (drop i ws)
+take_here ws i n w g = sym (ap (take (n + 2)) (drop_here ws i w g) ∙ ap (λ k. take k (w ∷ drop (i + 1) ws)) (let z : n + 2 ≡ suc (n + 1) = omega arith in z))
 
-drop_map_take : (count : ℕ) (ws : List Word) → drop count (map taken (take count ws)) ≡ []
-drop_map_take count ws = grind (arith, common_steps)
+pub parting_hop : (ws : List Word) (most i from depth commas n : ℕ) (args : List (List Word)) (w : Word) → slice_get ws i ≡ Some w → parts w depth commas ≡ false
+    → Opens w depth → Some n ≡ close_at 0 (drop (i + 1) ws) → Parting ws most i from depth commas args → Parting ws most (i + (n + 2)) from depth commas args
+parting_hop ws most i from depth commas n args w g e o f p =
+    let h : n < length (drop (i + 1) ws) = close_within 0 (drop (i + 1) ws) n (sym f) in
+    let l : length (drop (i + 1) ws) ≡ length ws - (i + 1) = length-drop (i + 1) ws in
+    let d : depth ≤ i = p.deep in
+    let b : from ≤ i = p.order in record {
+      order = omega arith;
+      within = omega arith;
+      deep = omega arith;
+      parting = at_word ws most i from depth commas args w g p ∙ ap (λ ps. args ++ glued (slice_range ws from i) ps) (hopped w (drop (i + 1) ws) depth commas n o e (sym f))
+          ∙ ap (λ ps. args ++ ps) (glued_glued (slice_range ws from i) (w ∷ take (n + 1) (drop (i + 1) ws)) (parted depth commas (drop (n + 1) (drop (i + 1) ws))))
+          ∙ ap (λ a. args ++ glued a (parted depth commas (drop (n + 1) (drop (i + 1) ws)))) (ap (λ a. slice_range ws from i ++ a) (take_here ws i n w g) ∙ range_by ws from i (n + 2) b)
+          ∙ ap (λ xs. args ++ glued (slice_range ws from (i + (n + 2))) (parted depth commas xs)) (drop_there ws i n);
+    }
 
-pub taking_done : (first : Level) (count most i : ℕ) (args : List (List Word)) (arg : List Word) (commas depth : ℕ) (level : Level) → i ≡ count
-    → Taking first count most i args arg commas depth level → args ++ arg ∷ [] ≡ parted 0 most (map taken (take count (ahead first)))
-taking_done first count most i args arg commas depth level h t = sym (t.parting ∙ ap (λ k. args ++ glued arg (parted depth commas (drop k (map taken (take count (ahead first)))))) h
-    ∙ ap (λ ws. args ++ glued arg (parted depth commas ws)) (drop_map_take count (ahead first)) ∙ ap (λ x. args ++ x ∷ []) (append_nil arg))
+pub parting_done : (ws : List Word) (most i from depth commas count : ℕ) (args : List (List Word)) → slice_get ws i ≡ None → count ≡ length ws
+    → Parting ws most i from depth commas args → args ++ slice_range ws from count ∷ [] ≡ parted 0 most ws
+parting_done ws most i from depth commas count args g c p =
+    let a : length ws ≤ i = get_least ws i g in
+    let b : i ≤ length ws = p.within in
+    sym (p.parting ∙ ap (λ xs. args ++ glued (slice_range ws from i) (parted depth commas xs)) (drop_past ws i g) ∙ ap (λ x. args ++ x ∷ []) (append_nil (slice_range ws from i))
+    ∙ ap (λ n. args ++ slice_range ws from n ∷ []) (let z : i ≡ count = omega arith in z))
 
 take_inner : (n : ℕ) (ws : List Word) → take n (drop 1 (take (n + 2) ws)) ≡ take n (drop 1 ws)
 take_inner n ws = grind (arith, common_steps)

@@ -17,10 +17,11 @@ use Rattle.cl_macro.specs.declared.walk.Invoked.{Invoked}
 use Rattle.cl_macro.specs.Replacing.{replacements}
 use Rattle.cl_macro.specs.Walks.{Walks}
 use Rattle.cl_macro.specs.declared.level.Level.{Level}
-use Rattle.cl_macro.specs.declared.level.Seen.{Seen}
-use Rattle.cl_macro.specs.declared.level.Seen.TheVariants as seen
+use Rattle.cl_macro.specs.declared.seen.Seen.{Seen}
+use Rattle.cl_macro.specs.declared.seen.Seen.TheVariants as seen
 use Rattle.cl_macro.specs.Words.{fresh}
 use Rattle.cl_macro.specs.declared.word.Word.{Word}
+use Rattle.cl_macro.specs.code.Segments.{slot_word}
 
 -- the run's tokens that nothing has taken yet
 abbrev pub rest_of : Level → List Word
@@ -28,6 +29,7 @@ rest_of level = map fresh level.rest.now
 
 abbrev pub seen_word : Seen → Word
 seen_word (seen.Made word) = word.now
+seen_word (seen.Kept slot) = slot_word slot.now
 seen_word (seen.Run token) = fresh token.now
 
 abbrev pub work_of : Level → List Word

@@ -1,3 +1,4 @@
 pub mod Giving
 pub mod Gaining
 pub mod Flat
+pub mod Segments

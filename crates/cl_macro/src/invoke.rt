@@ -8,7 +8,7 @@ ghost use Rattle.cl_macro.specs.Walks.{notes_of};
 ghost use Rattle.cl_macro.specs.Turns.{invoking};
 ghost use Rattle.cl_macro.specs.Frames.{Proceeds, Replaced, Short, begun_at, frame_of, frames, waits};
 
-use crate::args::{args_of, note_invocation, reversed, set_of};
+use crate::args::{args_of, note_invocation, set_of};
 use crate::body::Args;
 use crate::level::Level;
 use crate::made::{lay, whole_body};
@@ -17,6 +17,7 @@ use crate::note::Note;
 use crate::pending::Pending;
 use crate::place::Place;
 use crate::walk::Invoked;
+use crate::work::Work;
 use cl_base::{List, Mem};
 use std::alloc::Global;
 
@@ -67,7 +68,7 @@ pub(crate) fn proceed<'a>(
         let level = replaced(alloc, place, notes, pending)?;
         return Ok(level);
     };
-    let work = reversed(alloc, arg)?;
+    let work = Work::of(alloc, arg);
     let (rest, _) = pending.level.rest.split_at(0);
     calls.push(pending)?;
     Ok(Level {

@@ -4,8 +4,9 @@ ghost use Rattle.std.specs.Prelude.{◌≡◌, ◌||◌, ◌&&◌, ◌++◌, rev
 ghost use Rattle.cl_macro.specs.Params.{as_wanted, asked, is_at, is_needed, needed_one, param_at, pastes_next, raws};
 
 use crate::params::{is_param, is_paste, is_string, pastes_next};
+use crate::window::Window;
 use crate::word::Word;
-use cl_base::{BodyToken, Duplicate, List, Macro, Mem};
+use cl_base::{BodyToken, List, Macro, Mem};
 use std::alloc::Global;
 
 /// Whether a parameter stands as it is wanted: beside `##`, if `raw`, and not, otherwise.
@@ -59,21 +60,21 @@ fn is_needed(mac: &Macro, raw: bool, i: usize) -> bool
     false
 }
 
-fn asked_one(alloc: Global, mac: &Macro, i: usize, arg: List<Word>) -> List<Word>
+fn asked_one(mac: &Macro, i: usize, arg: Window) -> Window
     ensures { result ≡ needed_one mac.now false i arg }
 {
     if is_needed(mac, false, i) {
         arg
     } else {
-        List::new(alloc)
+        Window::none()
     }
 }
 
-fn raw_one(alloc: Global, mac: &Macro, i: usize, arg: &List<Word>) -> Mem<List<Word>>
+fn raw_one(alloc: Global, mac: &Macro, i: usize, arg: &Window) -> Mem<List<Word>>
     ensures { IfOk result (λ words. words ≡ needed_one mac.now true i arg.now) }
 {
     if is_needed(mac, true, i) {
-        let words = arg.duplicate(alloc)?;
+        let words = arg.words(alloc)?;
         Ok(words)
     } else {
         Ok(List::new(alloc))
@@ -82,13 +83,13 @@ fn raw_one(alloc: Global, mac: &Macro, i: usize, arg: &List<Word>) -> Mem<List<W
 
 /// The arguments that are to be replaced, and nothing for another one, the last first.
 #[tactic(auto, unfolding(crate::specs::Params::asked))]
-pub(crate) fn asked(alloc: Global, mac: &Macro, args: List<List<Word>>) -> Mem<List<List<Word>>>
+pub(crate) fn asked(alloc: Global, mac: &Macro, args: List<Window>) -> Mem<List<Window>>
     ensures { IfOk result (λ all. reverse all ≡ asked mac.now args) }
 {
     let mut args = args;
     let mut all = List::new(alloc);
     while let Some(arg) = args.pop() {
-        let arg = asked_one(alloc, mac, args.len(), arg);
+        let arg = asked_one(mac, args.len(), arg);
         all.push(arg)?;
     }
     Ok(all)
@@ -96,7 +97,7 @@ pub(crate) fn asked(alloc: Global, mac: &Macro, args: List<List<Word>>) -> Mem<L
 
 /// The arguments that are needed as they stand, and nothing for another one.
 #[tactic(auto, unfolding(crate::specs::Params::raws))]
-pub(crate) fn raws(alloc: Global, mac: &Macro, args: &List<List<Word>>) -> Mem<List<List<Word>>>
+pub(crate) fn raws(alloc: Global, mac: &Macro, args: &List<Window>) -> Mem<List<List<Word>>>
     ensures { IfOk result (λ all. all ≡ raws mac.now args.now) }
 {
     let mut all = List::new(alloc);

@@ -1,5 +1,5 @@
 -- One event more.
-use Rattle.std.proofs.Common.{◌≡◌, ℕ, suc, ◌+◌, List, [], ◌∷◌, ◌++◌, Option, Some, None, refl, sym, ap, ◌∙◌, length, arith}
+use Rattle.std.proofs.Common.{◌≡◌, ℕ, suc, ◌+◌, List, [], ◌∷◌, ◌++◌, Option, Some, refl, sym, ap, ◌∙◌, length, arith}
 use Rattle.std.specs.Prelude.{if◌then◌else◌}
 use Rattle.cl_base.specs.declared.macros.Macro.{Macro}
 use Rattle.cl_base.specs.declared.macros.MacroEvent.{MacroEvent}
@@ -32,11 +32,11 @@ numbered_more n (x ∷ xs) e name before =
     numbered_more (n + 1) xs e name (if is_name x.name name then Some (no n) else before)
     ∙ ap (λ (k : ℕ). if is_name e.name name then Some (no k) else numbered (n + 1) xs name (if is_name x.name name then Some (no n) else before)) s
 
-pub kept_event : (start : Start) (table new : MacroTable) (old done : PpDone) (name : List ℕ) (set : Option Macro) → Keeps start table old
-    → done.events ≡ old.events ++ record { name = name; set = set } ∷ [] → IsPut name set table new → Keeps start new done
-kept_event start table new old done name set k e p =
-    let m = p.macros (λ name. None) in
-    let n = p.events (λ name. None) in
+pub kept_event : {ms : List ℕ → Option Macro} {ns : List ℕ → Option MacroNo} (start : Start) (table new : MacroTable) (old done : PpDone) (name : List ℕ) (set : Option Macro) → Keeps ms ns start table old
+    → done.events ≡ old.events ++ record { name = name; set = set } ∷ [] → IsPut name set table new → Keeps ms ns start new done
+kept_event {ms} {ns} start table new old done name set k e p =
+    let m = p.macros ms in
+    let n = p.events ns in
     let c = p.count in
     let event : MacroEvent = record { name = name; set = set } in
     record {
@@ -52,16 +52,16 @@ kept_event start table new old done name set k e p =
     more (y ∷ ys) x = let r = more ys x in omega (arith, r)
 
 -- nothing happened
-pub kept_same : (start : Start) (table new : MacroTable) (old done : PpDone) → Keeps start table old → done.events ≡ old.events → IsAsBefore table new → Keeps start new done
-kept_same start table new old done k e p = record {
-  macros_are = λ other. ap (λ (x : Option Entry). macro_by x None) (p.entries other) ∙ k.macros_are other ∙ ap (λ (es : List MacroEvent). meant es other (start.macros other)) (sym e);
-  numbers_are = λ other. ap (λ (x : Option Entry). event_by x None) (p.entries other) ∙ k.numbers_are other ∙ ap (λ (es : List MacroEvent). numbered start.events es other (start.numbers other)) (sym e);
+pub kept_same : {ms : List ℕ → Option Macro} {ns : List ℕ → Option MacroNo} (start : Start) (table new : MacroTable) (old done : PpDone) → Keeps ms ns start table old → done.events ≡ old.events → IsAsBefore table new → Keeps ms ns start new done
+kept_same {ms} {ns} start table new old done k e p = record {
+  macros_are = λ other. ap (λ (x : Option Entry). macro_by x (ms other)) (p.entries other) ∙ k.macros_are other ∙ ap (λ (es : List MacroEvent). meant es other (start.macros other)) (sym e);
+  numbers_are = λ other. ap (λ (x : Option Entry). event_by x (ns other)) (p.entries other) ∙ k.numbers_are other ∙ ap (λ (es : List MacroEvent). numbered start.events es other (start.numbers other)) (sym e);
   count = p.count ∙ k.count ∙ ap (λ (es : List MacroEvent). start.events + length es) (sym e);
 }
 
 -- a definition
-pub kept_given : (file : ℕ) (start : Start) (table new : MacroTable) (old done : PpDone) (answer : Defined) (mac : Macro) (tokens : List Token) → Keeps start table old
-    → done ≡ defined_by file answer mac tokens old → Defines mac answer table new → Keeps start new done
+pub kept_given : {ms : List ℕ → Option Macro} {ns : List ℕ → Option MacroNo} (file : ℕ) (start : Start) (table new : MacroTable) (old done : PpDone) (answer : Defined) (mac : Macro) (tokens : List Token) → Keeps ms ns start table old
+    → done ≡ defined_by file answer mac tokens old → Defines mac answer table new → Keeps ms ns start new done
 kept_given file start table new old done defined.New mac tokens k e d = kept_event start table new old done mac.name (Some mac) k (ap (λ (x : PpDone). x.events) e) d
 kept_given file start table new old done defined.Same mac tokens k e d = kept_same start table new old done k (ap (λ (x : PpDone). x.events) e) d
 kept_given file start table new old done (defined.Replaced place) mac tokens k e d = kept_event start table new old done mac.name (Some mac) k (ap (λ (x : PpDone). x.events) e) d

@@ -2,7 +2,9 @@
 use Rattle.std.proofs.Common.{◌≡◌, ℕ, List, [], Option, Some, None, sym, ap, subst, ◌∙◌, length, arith}
 use Rattle.cl_base.specs.declared.config.Settings.{Settings}
 use Rattle.cl_base.specs.declared.headers.Known.{Known}
+use Rattle.cl_base.specs.declared.macros.Macro.{Macro}
 use Rattle.cl_base.specs.declared.macros.MacroEvent.{MacroEvent}
+use Rattle.cl_base.specs.declared.macros.MacroNo.{MacroNo}
 use Rattle.cl_macro.specs.declared.table.MacroTable.{MacroTable}
 use Rattle.cl_pp.specs.declared.done.PpAnswer.{PpAnswer}
 use Rattle.cl_pp.specs.declared.done.PpDone.{PpDone}
@@ -14,8 +16,8 @@ use Rattle.cl_pp.specs.Standing.{Start, meant, numbered, wanted}
 use Rattle.cl_pp.specs.code.Keeping.{Keeps, lookup, number_of}
 
 -- no event has been yet
-pub keeps_first : (start : Start) (table : MacroTable) (old : PpDone) → old.events ≡ [] → ((name : List ℕ) → lookup table name ≡ start.macros name) → ((name : List ℕ) → number_of table name ≡ start.numbers name)
-    → table.events ≡ start.events → Keeps start table old
+pub keeps_first : {ms : List ℕ → Option Macro} {ns : List ℕ → Option MacroNo} (start : Start) (table : MacroTable) (old : PpDone) → old.events ≡ [] → ((name : List ℕ) → lookup ms table name ≡ start.macros name) → ((name : List ℕ) → number_of ns table name ≡ start.numbers name)
+    → table.events ≡ start.events → Keeps ms ns start table old
 keeps_first start table old e m n c = record {
   macros_are = λ name. m name ∙ ap (λ (es : List MacroEvent). meant es name (start.macros name)) (sym e);
   numbers_are = λ name. n name ∙ ap (λ (es : List MacroEvent). numbered start.events es name (start.numbers name)) (sym e);

@@ -51,23 +51,23 @@ pub gone_first : (w : World) (tokens : List Token) (marks : List Mark) (first : 
 gone_first w tokens marks first sections e = record { past = []; stands = stand_start sections e; goes = λ t g. g }
 
 -- what is kept tells what stands
-pub as_line : (file : File) (w : World) (macros : MacroTable) (tokens : List Token) (mark : Mark) (past : List Passed) (before : List Section) (old new : PpDone) (held : Bool) (aim : Aim)
-    → Suits file w → Keeps w.start macros old → Stand past before → ComesBy file w macros (tell (top_of before)) mark (line_of tokens mark) old held aim new
+pub as_line : {ms : List ℕ → Option Macro} {ns : List ℕ → Option MacroNo} (file : File) (w : World) (macros : MacroTable) (tokens : List Token) (mark : Mark) (past : List Passed) (before : List Section) (old new : PpDone) (held : Bool) (aim : Aim)
+    → Suits file w → Keeps ms ns w.start macros old → Stand past before → ComesBy ms ns file w macros (tell (top_of before)) mark (line_of tokens mark) old held aim new
     → ComesTo w tokens (record { past = past; done = old }) mark held aim new
-as_line file w macros tokens mark past before old new held aim s k stand h =
+as_line {ms} {ns} file w macros tokens mark past before old new held aim s k stand h =
     let b : get nat_cmp file.told.now ≡ w.begins = λ i. λ (at : ℕ). s.begins at i in
-    let m : lookup macros ≡ macro_at w.start old = λ i. λ (name : List ℕ). k.macros_are name i in
-    let n : number_of macros ≡ number_at w.start old = λ i. λ (name : List ℕ). k.numbers_are name i in
+    let m : lookup ms macros ≡ macro_at w.start old = λ i. λ (name : List ℕ). k.macros_are name i in
+    let n : number_of ns macros ≡ number_at w.start old = λ i. λ (name : List ℕ). k.numbers_are name i in
     let a : tell (top_of before) ≡ (λ q. says q 0 past) = top_answers past before stand in
     subst (λ (j : ℕ). Comes j (rules_in w (macro_at w.start old)) (number_at w.start old) (line_of tokens mark) (act j w.begins (macro_at w.start old) mark.part (λ q. says q 0 past) (line_of tokens mark) old) held aim new) s.number
     (subst (λ (g : ℕ → Option Fault). Comes file.number (rules_in w (macro_at w.start old)) (number_at w.start old) (line_of tokens mark) (act file.number g (macro_at w.start old) mark.part (λ q. says q 0 past) (line_of tokens mark) old) held aim new) b
     (subst (λ (f : List ℕ → Option Macro). Comes file.number (rules_in w f) (number_at w.start old) (line_of tokens mark) (act file.number (get nat_cmp file.told.now) f mark.part (λ q. says q 0 past) (line_of tokens mark) old) held aim new) m
-    (subst (λ (f : List ℕ → Option MacroNo). Comes file.number (rules_in w (lookup macros)) f (line_of tokens mark) (act file.number (get nat_cmp file.told.now) (lookup macros) mark.part (λ q. says q 0 past) (line_of tokens mark) old) held aim new) n
-    (subst (λ (f : Question → Bool). Comes file.number (rules_in w (lookup macros)) (number_of macros) (line_of tokens mark) (act file.number (get nat_cmp file.told.now) (lookup macros) mark.part f (line_of tokens mark) old) held aim new) a h))))
+    (subst (λ (f : List ℕ → Option MacroNo). Comes file.number (rules_in w (lookup ms macros)) f (line_of tokens mark) (act file.number (get nat_cmp file.told.now) (lookup ms macros) mark.part (λ q. says q 0 past) (line_of tokens mark) old) held aim new) n
+    (subst (λ (f : Question → Bool). Comes file.number (rules_in w (lookup ms macros)) (number_of ns macros) (line_of tokens mark) (act file.number (get nat_cmp file.told.now) (lookup ms macros) mark.part f (line_of tokens mark) old) held aim new) a h))))
 
-pub gone_on : (file : File) (w : World) (macros : MacroTable) (tokens : List Token) (marks : List Mark) (i : ℕ) (d mark : Mark) (first old mid new : PpDone) (before after : List Section) (held : Bool) (aim : Aim)
+pub gone_on : {ms : List ℕ → Option Macro} {ns : List ℕ → Option MacroNo} (file : File) (w : World) (macros : MacroTable) (tokens : List Token) (marks : List Mark) (i : ℕ) (d mark : Mark) (first old mid new : PpDone) (before after : List Section) (held : Bool) (aim : Aim)
     → i < length marks → mark ≡ get_or marks i d → is_stopped old ≡ false
-    → Suits file w → Keeps w.start macros old → ComesBy file w macros (tell (top_of before)) mark (line_of tokens mark) old held aim mid → Does w aim mid new
+    → Suits file w → Keeps ms ns w.start macros old → ComesBy ms ns file w macros (tell (top_of before)) mark (line_of tokens mark) old held aim mid → Does w aim mid new
     → after ≡ stacked mark.part held before
     → Gone w tokens marks first old before i → Gone w tokens marks first new after (i + 1)
 gone_on file w macros tokens marks i d mark first old mid new before after held aim l e f s k h x n g =
@@ -81,28 +81,28 @@ gone_on file w macros tokens marks i d mark first old mid new before after held 
     }
 
 -- nothing is done with a line that is skipped
-inactive : (file : File) (w : World) (macros : MacroTable) (whole : List Token) (done : PpDone) (b : Bool) → b ≡ false
-    → Comes file.number (rules_in w (lookup macros)) (number_of macros) whole (if b then at_line file.number (get nat_cmp file.told.now) whole done else Gives false done) false Nothing done
-inactive file w macros whole done true e = absurd (apart (sym e))
-inactive file w macros whole done false e = (refl, (refl, refl))
+inactive : (ms : List ℕ → Option Macro) (ns : List ℕ → Option MacroNo) (file : File) (w : World) (macros : MacroTable) (whole : List Token) (done : PpDone) (b : Bool) → b ≡ false
+    → Comes file.number (rules_in w (lookup ms macros)) (number_of ns macros) whole (if b then at_line file.number (get nat_cmp file.told.now) whole done else Gives false done) false Nothing done
+inactive ms ns file w macros whole done true e = absurd (apart (sym e))
+inactive ms ns file w macros whole done false e = (refl, (refl, refl))
 
-skipped_comes : (file : File) (w : World) (macros : MacroTable) (part : Part) (whole : List Token) (top : Section) (done : PpDone) → is_skipped part top ≡ true
-    → Comes file.number (rules_in w (lookup macros)) (number_of macros) whole (act file.number (get nat_cmp file.told.now) (lookup macros) part (tell top) whole done) false Nothing done
-skipped_comes file w macros Line whole top done h = inactive file w macros whole done top.active (not_active top.active h)
-skipped_comes file w macros End whole top done h = absurd (apart h)
-skipped_comes file w macros (Branch c) whole top done h = absurd (apart h)
+skipped_comes : (ms : List ℕ → Option Macro) (ns : List ℕ → Option MacroNo) (file : File) (w : World) (macros : MacroTable) (part : Part) (whole : List Token) (top : Section) (done : PpDone) → is_skipped part top ≡ true
+    → Comes file.number (rules_in w (lookup ms macros)) (number_of ns macros) whole (act file.number (get nat_cmp file.told.now) (lookup ms macros) part (tell top) whole done) false Nothing done
+skipped_comes ms ns file w macros Line whole top done h = inactive ms ns file w macros whole done top.active (not_active top.active h)
+skipped_comes ms ns file w macros End whole top done h = absurd (apart h)
+skipped_comes ms ns file w macros (Branch c) whole top done h = absurd (apart h)
 
 skipped_stack : (part : Part) (top : Section) (stack : List Section) → is_skipped part top ≡ true → stacked part false stack ≡ stack
 skipped_stack Line top stack h = refl
 skipped_stack End top stack h = absurd (apart h)
 skipped_stack (Branch c) top stack h = absurd (apart h)
 
-pub gone_past : (file : File) (w : World) (macros : MacroTable) (tokens : List Token) (marks : List Mark) (i : ℕ) (d mark : Mark) (first old : PpDone) (sections : List Section)
-    → i < length marks → mark ≡ get_or marks i d → is_stopped old ≡ false → Suits file w → Keeps w.start macros old → is_skipped mark.part (top_of sections) ≡ true
+pub gone_past : {ms : List ℕ → Option Macro} {ns : List ℕ → Option MacroNo} (file : File) (w : World) (macros : MacroTable) (tokens : List Token) (marks : List Mark) (i : ℕ) (d mark : Mark) (first old : PpDone) (sections : List Section)
+    → i < length marks → mark ≡ get_or marks i d → is_stopped old ≡ false → Suits file w → Keeps ms ns w.start macros old → is_skipped mark.part (top_of sections) ≡ true
     → Gone w tokens marks first old sections i → Gone w tokens marks first old sections (i + 1)
-gone_past file w macros tokens marks i d mark first old sections l e f s k h g =
+gone_past {ms} {ns} file w macros tokens marks i d mark first old sections l e f s k h g =
     gone_on file w macros tokens marks i d mark first old old old sections sections false Nothing l e f s k
-    (skipped_comes file w macros mark.part (line_of tokens mark) (top_of sections) old h) (nothing w old) (sym (skipped_stack mark.part (top_of sections) sections h)) g
+    (skipped_comes ms ns file w macros mark.part (line_of tokens mark) (top_of sections) old h) (nothing w old) (sym (skipped_stack mark.part (top_of sections) sections h)) g
 
 -- from the first line on they are gone over
 pub record Over (w : World) (tokens : List Token) (marks : List Mark) (old new : PpDone) : Type 0 where

@@ -14,6 +14,8 @@ use Rattle.cl_headers.specs.Noting.{IsNoted, dep_of}
 use Rattle.cl_lex.specs.Lexing.{Lexes}
 use Rattle.cl_lex.specs.Order.{AreInOrder}
 use Rattle.cl_macro.specs.declared.table.MacroTable.{MacroTable}
+use Rattle.cl_base.specs.declared.macros.MacroNo.{MacroNo}
+use Rattle.cl_base.specs.declared.macros.Macro.{Macro}
 use Rattle.cl_macro.proofs.Teller.{some_teller}
 use Rattle.cl_pp.specs.declared.aim.Aim.{Aim}
 use Rattle.cl_pp.specs.declared.done.PpDone.{PpDone}
@@ -34,7 +36,7 @@ use Rattle.cl_pp.proofs.Going.{Over}
 use Rattle.cl_pp.proofs.Withins.{within_order}
 use Rattle.std.specs.Prelude.{Bool}
 
-pub keeps_events : (start : Start) (table : MacroTable) (old new : PpDone) → Keeps start table old → new.events ≡ old.events → Keeps start table new
+pub keeps_events : {ms : List ℕ → Option Macro} {ns : List ℕ → Option MacroNo} (start : Start) (table : MacroTable) (old new : PpDone) → Keeps ms ns start table old → new.events ≡ old.events → Keeps ms ns start table new
 keeps_events start table old new k e = record {
   macros_are = λ name. k.macros_are name ∙ ap (λ (es : List MacroEvent). meant es name (start.macros name)) (sym e);
   numbers_are = λ name. k.numbers_are name ∙ ap (λ (es : List MacroEvent). numbered start.events es name (start.numbers name)) (sym e);
@@ -81,9 +83,9 @@ suits_lexed file entry config known w opened old new i o n p l t = record {
 }
 
 -- a line leaves the headers that were asked for as they were
-pub line_deps : (file : File) (text : List ℕ) (macros : MacroTable) (answer : Question → Bool) (mark : Mark) (whole : List Token) (old new : PpDone) (held : Bool) (aim : Aim)
-    → IsTableOf file.lines.now text → ((w : World) → Suits file w → w.text ≡ text → ComesBy file w macros answer mark whole old held aim new) → new.deps ≡ old.deps
-line_deps file text macros answer mark whole old new held aim l h =
+pub line_deps : (ms : List ℕ → Option Macro) (ns : List ℕ → Option MacroNo) (file : File) (text : List ℕ) (macros : MacroTable) (answer : Question → Bool) (mark : Mark) (whole : List Token) (old new : PpDone) (held : Bool) (aim : Aim)
+    → IsTableOf file.lines.now text → ((w : World) → Suits file w → w.text ≡ text → ComesBy ms ns file w macros answer mark whole old held aim new) → new.deps ≡ old.deps
+line_deps ms ns file text macros answer mark whole old new held aim l h =
     let teller = some_teller in
     let w : World = record {
       file = file.number;
@@ -96,7 +98,7 @@ line_deps file text macros answer mark whole old new held aim l h =
       known = λ path. Unknown;
       folders = [];
     } in
-    comes_deps file.number (rules_in w (lookup macros)) (number_of macros) whole old (get nat_cmp file.told.now) (lookup macros) mark.part answer held aim new
+    comes_deps file.number (rules_in w (lookup ms macros)) (number_of ns macros) whole old (get nat_cmp file.told.now) (lookup ms macros) mark.part answer held aim new
     (h w (record { number = refl; path = refl; lines = l; begins = λ at. refl; tells = teller.1 }) refl)
 
 pub reads_over : (w : World) (opened : Opened) (file : ℕ) (text : List ℕ) (old mid new : PpDone) (tokens : List Token) (marks : List Mark) → IsOpened file text old opened mid → file ≡ w.file → text ≡ w.text

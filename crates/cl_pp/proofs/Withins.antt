@@ -1,5 +1,5 @@
 -- The tokens of a line stand in the text.
-use Rattle.std.proofs.Common.{ℕ, zero, suc, ◌-◌, ◌≤◌, Bool, true, false, List, [], ◌∷◌, Option, arith, length, map, take, drop}
+use Rattle.std.proofs.Common.{ℕ, zero, suc, ◌-◌, ◌≤◌, Bool, true, false, List, [], ◌∷◌, Option, arith, length, map, take, drop, subst, sym}
 use Rattle.std.specs.Prelude.{◌==◌, if◌then◌else◌, is_some}
 use Rattle.cl_base.specs.declared.macros.Macro.{Macro}
 use Rattle.cl_base.specs.declared.token.Token.{Token}
@@ -7,9 +7,11 @@ use Rattle.cl_base.specs.declared.token.PpToken.{PpToken}
 use Rattle.cl_lex.specs.Order.{AreInOrder}
 use Rattle.cl_macro.specs.Levels.{Within as AreWithin}
 use Rattle.cl_macro.specs.Words.{fresh}
-use Rattle.cl_pp.specs.Defined.{decided_from, number_for, operand_name, spread, taken}
+use Rattle.cl_pp.specs.Defined.{decided, number_for, operand_name, spread, taken}
+use Rattle.cl_pp.specs.code.Deciding.{decided_from}
 use Rattle.cl_pp.specs.Lines.{rest_of, spread_line}
 use Rattle.cl_pp.specs.Places.{Within}
+use Rattle.cl_pp.proofs.Deciding.{decided_is}
 
 pub within_spread : (file : ℕ) (text : List ℕ) (line : List Token) → Within (length text) line → AreWithin text (map fresh (spread_line file line))
 within_spread file text [] h = tt
@@ -19,11 +21,14 @@ one_within : (b : Bool) (end : ℕ) (x y : PpToken) → x.at.from ≤ end → y.
 one_within true end x y h k = h
 one_within false end x y h k = k
 
-pub within_decided : (file : ℕ) (macros : List ℕ → Option Macro) (text : List ℕ) (n : ℕ) (ts : List Token) → Within (length text) ts → AreWithin text (map fresh (decided_from file macros n ts))
-within_decided file macros text n [] h = tt
-within_decided file macros text (suc n) (t ∷ ts) h = within_decided file macros text n ts h.1
-within_decided file macros text zero (t ∷ ts) h =
-    (one_within (taken t ts == 0) (length text) (spread file t) (number_for file (is_some (macros (operand_name ts))) t (taken t ts) ts) h.0 h.0, within_decided file macros text (taken t ts) ts h.1)
+within_from : (file : ℕ) (macros : List ℕ → Option Macro) (text : List ℕ) (n : ℕ) (ts : List Token) → Within (length text) ts → AreWithin text (map fresh (decided_from file macros n ts))
+within_from file macros text n [] h = tt
+within_from file macros text (suc n) (t ∷ ts) h = within_from file macros text n ts h.1
+within_from file macros text zero (t ∷ ts) h =
+    (one_within (taken t ts == 0) (length text) (spread file t) (number_for file (is_some (macros (operand_name ts))) t (taken t ts) ts) h.0 h.0, within_from file macros text (taken t ts) ts h.1)
+
+pub within_decided : (file : ℕ) (macros : List ℕ → Option Macro) (text : List ℕ) (ts : List Token) → Within (length text) ts → AreWithin text (map fresh (decided file macros ts))
+within_decided file macros text ts h = subst (λ (made : List PpToken). AreWithin text (map fresh made)) (sym (decided_is file macros ts)) (within_from file macros text 0 ts h)
 
 pub within_rest : (end : ℕ) (line : List Token) → Within end line → Within end (rest_of line)
 within_rest end [] h = tt

@@ -1,6 +1,8 @@
 -- What stands before a text, as its state says it.
-use Rattle.std.specs.Prelude.{◌≡◌, ℕ, List, [], None}
+use Rattle.std.specs.Prelude.{◌≡◌, ℕ, List, [], Option, None}
 use Rattle.cl_base.specs.declared.config.Define.{Define}
+use Rattle.cl_base.specs.declared.macros.Macro.{Macro}
+use Rattle.cl_base.specs.declared.macros.MacroNo.{MacroNo}
 use Rattle.cl_base.specs.declared.headers.Known.{Known}
 use Rattle.cl_headers.specs.Noting.{IsNoted}
 use Rattle.cl_macro.specs.Starting.{IsStart}
@@ -9,13 +11,17 @@ use Rattle.cl_pp.specs.declared.start.PpState.{PpState}
 use Rattle.cl_pp.specs.declared.done.PpAnswer.{PpAnswer}
 use Rattle.cl_pp.specs.Preprocessing.{Before, PreprocessesFrom}
 
--- where nothing goes before the state
-abbrev pub before_of : PpState → Before
-before_of state = record {
-  start = record { macros = macro_of state.macros (λ name. None); numbers = event_of state.macros (λ name. None); events = state.events };
+-- over a base that gives names these macros, whose last events have these numbers
+abbrev pub before_over : (List ℕ → Option Macro) → (List ℕ → Option MacroNo) → PpState → Before
+before_over macros numbers state = record {
+  start = record { macros = macro_of state.macros macros; numbers = event_of state.macros numbers; events = state.events };
   files = state.files;
   once = state.once;
 }
+
+-- where nothing goes before the state
+abbrev pub before_of : PpState → Before
+before_of = before_over (λ name. None) (λ name. None)
 
 -- the state has no more than the macros that are predefined and those of the settings
 pub record IsFirst (defines : List Define) (state : PpState) : Type 0 where

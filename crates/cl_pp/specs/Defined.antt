@@ -1,6 +1,6 @@
 -- The tokens of a condition (N1570 6.10.1p1): `defined NAME` and `defined ( NAME )` are taken first, and are 1 where the
 -- name is a macro, and else 0.
-use Rattle.std.specs.Prelude.{ℕ, zero, suc, ◌-◌, ◌==◌, ◌&&◌, List, [], ◌∷◌, ◌++◌, Bool, if◌then◌else◌, Option, Some, None, is_some, slice_get, codes}
+use Rattle.std.specs.Prelude.{ℕ, suc, ◌-◌, ◌==◌, ◌&&◌, ◌||◌, not, nat_lt, List, [], ◌∷◌, ◌++◌, Bool, false, if◌then◌else◌, Option, Some, None, is_some, slice_get, codes}
 use Rattle.cl_base.specs.declared.token.Kind.TheVariants as kind
 use Rattle.cl_base.specs.declared.token.Span.{Span}
 use Rattle.cl_base.specs.declared.token.Token.{Token}
@@ -32,6 +32,17 @@ operand_len (a ∷ ts) = if is_ident a.kind then 1 else if spells a.text (codes 
 -- and how many follow this token that belong to it
 abbrev pub taken : Token → List Token → ℕ
 taken token ts = if is_word token (codes "defined") then operand_len ts else 0
+
+-- Looking back from a place, with the tokens before it, the last first, and those behind it: whether one of those before is
+-- a `defined` whose operand goes on past so many tokens behind the place. A `defined` that stands in the operand of another
+-- one is a name, and has none
+abbrev pub goes_past : ℕ → List Token → List Token → Bool
+goes_past n [] behind = false
+goes_past n (token ∷ before) behind = (nat_lt n (taken token behind) && not (goes_past 0 before (token ∷ behind))) || goes_past (suc n) before (token ∷ behind)
+
+-- the token that stands first behind the place is in the operand of a `defined`
+abbrev pub is_in_operand : List Token → List Token → Bool
+is_in_operand before behind = goes_past 0 before behind
 
 -- what a token spells, if there is one
 abbrev pub text_of : Option Token → List ℕ
@@ -72,24 +83,29 @@ module _ (file : ℕ) (macros : List ℕ → Option Macro) where
   abbrev pub replaced : Token → List Token → PpToken
   replaced token ts = if taken token ts == 0 then spread file token else number_for file (is_some (macros (operand_name ts))) token (taken token ts) ts
 
-  -- the tokens of a condition, where so many belong to what is before
-  abbrev pub decided_from : ℕ → List Token → List PpToken
-  decided_from n [] = []
-  decided_from (suc n) (t ∷ ts) = decided_from n ts
-  decided_from zero (t ∷ ts) = replaced t ts ∷ decided_from (taken t ts) ts
+  -- what a token of a condition is there for: a number for a `defined` with its operand, else the token
+  abbrev pub part_for : List Token → Token → List Token → List PpToken
+  part_for before token ts = if is_in_operand before (token ∷ ts) then [] else replaced token ts ∷ []
+
+  -- the tokens of a condition, where these stand before them, the last first
+  abbrev pub decided_behind : List Token → List Token → List PpToken
+  decided_behind before [] = []
+  decided_behind before (token ∷ ts) = part_for before token ts ++ decided_behind (token ∷ before) ts
 
   abbrev pub decided : List Token → List PpToken
-  decided tokens = decided_from 0 tokens
+  decided tokens = decided_behind [] tokens
 
 -- the name that is asked for by this token and those that follow it
 abbrev pub asked_for : Token → List Token → List (List ℕ)
 asked_for token ts = if taken token ts == 0 then [] else operand_name ts ∷ []
 
--- the names that a condition asks for, where so many tokens belong to what is before
-abbrev pub asked_from : ℕ → List Token → List (List ℕ)
-asked_from n [] = []
-asked_from (suc n) (t ∷ ts) = asked_from n ts
-asked_from zero (t ∷ ts) = asked_for t ts ++ asked_from (taken t ts) ts
+abbrev pub asked_by : List Token → Token → List Token → List (List ℕ)
+asked_by before token ts = if is_in_operand before (token ∷ ts) then [] else asked_for token ts
+
+-- the names that a condition asks for, where these tokens stand before, the last first
+abbrev pub asked_behind : List Token → List Token → List (List ℕ)
+asked_behind before [] = []
+asked_behind before (token ∷ ts) = asked_by before token ts ++ asked_behind (token ∷ before) ts
 
 abbrev pub asked : List Token → List (List ℕ)
-asked tokens = asked_from 0 tokens
+asked tokens = asked_behind [] tokens

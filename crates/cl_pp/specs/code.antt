@@ -6,3 +6,4 @@ pub mod Defining
 pub mod Operands
 pub mod Reaching
 pub mod Shelving
+pub mod Deciding

@@ -21,27 +21,28 @@ use crate::section::Section;
 use crate::stray::line_strays;
 use cl_base::{Mem, Token};
 use cl_cond::{Condition, Part};
-use cl_macro::MacroTable;
+use cl_macro::{MacroBase, MacroTable};
 use std::alloc::Global;
 
 /// Goes over a line in this section, and answers what it comes to.
-pub(crate) fn act(
+pub(crate) fn act<B: MacroBase>(
     alloc: Global,
     file: &File,
     table: &mut MacroTable,
+    base: &B,
     made: &mut Made,
     part: Part,
     here: Section,
     line: &[Token],
 ) -> Mem<Came>
     requires { Sees made.now }
-    ensures done { (w : World) → Suits file.now w → Within (length w.text) line.now → IfOk result (λ came. Comes file.now.number (rules_in w (lookup table.old)) (number_of table.old) line.now (act file.now.number (get nat_cmp file.now.told.now) (lookup table.old) part (tell here) line.now made.old.done) came.held came.aim made.new.done) }
-    ensures keeps { (start : Start) → Keeps start table.old made.old.done → OnOk result (Keeps start table.new made.new.done) }
+    ensures done { (w : World) → Suits file.now w → Within (length w.text) line.now → IfOk result (λ came. Comes file.now.number (rules_in w (lookup (B.macros base.now) table.old)) (number_of (B.events base.now) table.old) line.now (act file.now.number (get nat_cmp file.now.told.now) (lookup (B.macros base.now) table.old) part (tell here) line.now made.old.done) came.held came.aim made.new.done) }
+    ensures keeps { (start : Start) → Keeps (B.macros base.now) (B.events base.now) start table.old made.old.done → OnOk result (Keeps (B.macros base.now) (B.events base.now) start table.new made.new.done) }
     ensures sees { OnOk result (Sees made.new) }
 {
     match part {
         Part::Line => {
-            let aim = in_line(alloc, file, table, made, here.active, line)?;
+            let aim = in_line(alloc, file, table, base, made, here.active, line)?;
             Ok(Came { held: false, aim })
         }
         Part::End => {
@@ -52,7 +53,7 @@ pub(crate) fn act(
             })
         }
         Part::Branch(condition) => {
-            let held = in_branch(alloc, file, table, made, condition, here, line)?;
+            let held = in_branch(alloc, file, table, base, made, condition, here, line)?;
             Ok(Came {
                 held,
                 aim: Aim::Nothing,
@@ -62,44 +63,46 @@ pub(crate) fn act(
 }
 
 /// Goes over a run of text or a directive, which is active or not, and answers what it aims at.
-fn in_line(
+fn in_line<B: MacroBase>(
     alloc: Global,
     file: &File,
     table: &mut MacroTable,
+    base: &B,
     made: &mut Made,
     active: bool,
     line: &[Token],
 ) -> Mem<Aim>
     requires { Sees made.now }
-    ensures done { (w : World) → Suits file.now w → Within (length w.text) line.now → IfOk result (λ aim. Comes file.now.number (rules_in w (lookup table.old)) (number_of table.old) line.now (if active then at_line file.now.number (get nat_cmp file.now.told.now) line.now made.old.done else Gives false made.old.done) false aim made.new.done) }
-    ensures keeps { (start : Start) → Keeps start table.old made.old.done → OnOk result (Keeps start table.new made.new.done) }
+    ensures done { (w : World) → Suits file.now w → Within (length w.text) line.now → IfOk result (λ aim. Comes file.now.number (rules_in w (lookup (B.macros base.now) table.old)) (number_of (B.events base.now) table.old) line.now (if active then at_line file.now.number (get nat_cmp file.now.told.now) line.now made.old.done else Gives false made.old.done) false aim made.new.done) }
+    ensures keeps { (start : Start) → Keeps (B.macros base.now) (B.events base.now) start table.old made.old.done → OnOk result (Keeps (B.macros base.now) (B.events base.now) start table.new made.new.done) }
     ensures sees { OnOk result (Sees made.new) }
 {
     if active {
-        at_line(alloc, file, table, made, line)
+        at_line(alloc, file, table, base, made, line)
     } else {
         Ok(Aim::Nothing)
     }
 }
 
 /// Goes over an active line that is a run of text or a directive, and answers what it aims at.
-fn at_line(
+fn at_line<B: MacroBase>(
     alloc: Global,
     file: &File,
     table: &mut MacroTable,
+    base: &B,
     made: &mut Made,
     line: &[Token],
 ) -> Mem<Aim>
     requires { Sees made.now }
-    ensures done { (w : World) → Suits file.now w → Within (length w.text) line.now → IfOk result (λ aim. Comes file.now.number (rules_in w (lookup table.old)) (number_of table.old) line.now (at_line file.now.number (get nat_cmp file.now.told.now) line.now made.old.done) false aim made.new.done) }
-    ensures keeps { (start : Start) → Keeps start table.old made.old.done → OnOk result (Keeps start table.new made.new.done) }
+    ensures done { (w : World) → Suits file.now w → Within (length w.text) line.now → IfOk result (λ aim. Comes file.now.number (rules_in w (lookup (B.macros base.now) table.old)) (number_of (B.events base.now) table.old) line.now (at_line file.now.number (get nat_cmp file.now.told.now) line.now made.old.done) false aim made.new.done) }
+    ensures keeps { (start : Start) → Keeps (B.macros base.now) (B.events base.now) start table.old made.old.done → OnOk result (Keeps (B.macros base.now) (B.events base.now) start table.new made.new.done) }
     ensures sees { OnOk result (Sees made.new) }
 {
     line_strays(&mut made.done.faults, file.number, file.told, line)?;
     if is_directive(line) {
-        directive(alloc, file, table, made, line)
+        directive(alloc, file, table, base, made, line)
     } else {
-        run_line(alloc, file, table, made, line)?;
+        run_line(alloc, file, table, base, made, line)?;
         Ok(Aim::Nothing)
     }
 }
@@ -130,46 +133,48 @@ fn at_end(file: &File, made: &mut Made, line: &[Token]) -> Mem<()>
 }
 
 /// Goes over the line of a branch in this section, and answers whether its condition is fulfilled.
-fn in_branch(
+fn in_branch<B: MacroBase>(
     alloc: Global,
     file: &File,
     table: &MacroTable,
+    base: &B,
     made: &mut Made,
     condition: Condition,
     here: Section,
     line: &[Token],
 ) -> Mem<bool>
     requires { Sees made.now }
-    ensures done { (w : World) → Suits file.now w → Within (length w.text) line.now → IfOk result (λ held. Takes file.now.number (rules_in w (lookup table.now)) (number_of table.now) line.now (if is_looked_at condition (tell here) then at_branch file.now.number (get nat_cmp file.now.told.now) (lookup table.now) condition (may_take condition (tell here)) line.now made.old.done else Gives false made.old.done) held made.new.done) }
+    ensures done { (w : World) → Suits file.now w → Within (length w.text) line.now → IfOk result (λ held. Takes file.now.number (rules_in w (lookup (B.macros base.now) table.now)) (number_of (B.events base.now) table.now) line.now (if is_looked_at condition (tell here) then at_branch file.now.number (get nat_cmp file.now.told.now) (lookup (B.macros base.now) table.now) condition (may_take condition (tell here)) line.now made.old.done else Gives false made.old.done) held made.new.done) }
     ensures events { OnOk result (made.new.done.events ≡ made.old.done.events) }
     ensures sees { OnOk result (Sees made.new) }
 {
     if is_looked_at(condition, here) {
         let may = may_take(condition, here);
-        at_branch(alloc, file, table, made, condition, may, line)
+        at_branch(alloc, file, table, base, made, condition, may, line)
     } else {
         Ok(false)
     }
 }
 
 /// Goes over the line of a branch in active lines, which may be taken or not.
-fn at_branch(
+fn at_branch<B: MacroBase>(
     alloc: Global,
     file: &File,
     table: &MacroTable,
+    base: &B,
     made: &mut Made,
     condition: Condition,
     may: bool,
     line: &[Token],
 ) -> Mem<bool>
     requires { Sees made.now }
-    ensures done { (w : World) → Suits file.now w → Within (length w.text) line.now → IfOk result (λ held. Takes file.now.number (rules_in w (lookup table.now)) (number_of table.now) line.now (at_branch file.now.number (get nat_cmp file.now.told.now) (lookup table.now) condition may line.now made.old.done) held made.new.done) }
+    ensures done { (w : World) → Suits file.now w → Within (length w.text) line.now → IfOk result (λ held. Takes file.now.number (rules_in w (lookup (B.macros base.now) table.now)) (number_of (B.events base.now) table.now) line.now (at_branch file.now.number (get nat_cmp file.now.told.now) (lookup (B.macros base.now) table.now) condition may line.now made.old.done) held made.new.done) }
     ensures events { OnOk result (made.new.done.events ≡ made.old.done.events) }
     ensures sees { OnOk result (Sees made.new) }
 {
     line_strays(&mut made.done.faults, file.number, file.told, line)?;
     if may {
-        taken(alloc, file, table, made, condition, line)
+        taken(alloc, file, table, base, made, condition, line)
     } else {
         passed_by(made, file.number, condition, line)
     }

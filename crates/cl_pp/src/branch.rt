@@ -18,7 +18,7 @@ use crate::section::{Section, opens};
 use crate::token::fault_in;
 use cl_base::{Diag, List, Mem, PpToken, Token};
 use cl_cond::{Condition, IfValue, eval_if};
-use cl_macro::MacroTable;
+use cl_macro::{MacroBase, MacroTable};
 use std::alloc::Global;
 
 /// Whether the branch that begins there may be taken.
@@ -44,23 +44,24 @@ pub(crate) fn is_looked_at(condition: Condition, here: Section) -> bool
 }
 
 /// Goes over the line of a branch that may be taken, and answers whether its condition is fulfilled.
-pub(crate) fn taken(
+pub(crate) fn taken<B: MacroBase>(
     alloc: Global,
     file: &File,
     table: &MacroTable,
+    base: &B,
     made: &mut Made,
     condition: Condition,
     line: &[Token],
 ) -> Mem<bool>
     requires { Sees made.now }
-    ensures done { (w : World) → Suits file.now w → Within (length w.text) line.now → IfOk result (λ held. Takes file.now.number (rules_in w (lookup table.now)) (number_of table.now) line.now (taken file.now.number (lookup table.now) condition line.now made.old.done) held made.new.done) }
+    ensures done { (w : World) → Suits file.now w → Within (length w.text) line.now → IfOk result (λ held. Takes file.now.number (rules_in w (lookup (B.macros base.now) table.now)) (number_of (B.events base.now) table.now) line.now (taken file.now.number (lookup (B.macros base.now) table.now) condition line.now made.old.done) held made.new.done) }
     ensures events { OnOk result (made.new.done.events ≡ made.old.done.events) }
     ensures sees { OnOk result (Sees made.new) }
 {
     match condition {
-        Condition::If | Condition::Elif => ask(alloc, file, table, made, line),
-        Condition::IfDef => tested(alloc, file.number, table, made, true, line),
-        Condition::IfNDef => tested(alloc, file.number, table, made, false, line),
+        Condition::If | Condition::Elif => ask(alloc, file, table, base, made, line),
+        Condition::IfDef => tested(alloc, file.number, table, base, made, true, line),
+        Condition::IfNDef => tested(alloc, file.number, table, base, made, false, line),
         Condition::Else => {
             extra(&mut made.done.faults, file.number, rest_of(line))?;
             Ok(true)
@@ -97,16 +98,17 @@ fn by_name(wanted: bool, defined: bool) -> bool
 }
 
 /// Goes over an `#ifdef` or `#ifndef`, and answers whether its condition is fulfilled.
-fn tested(
+fn tested<B: MacroBase>(
     alloc: Global,
     file: u32,
     table: &MacroTable,
+    base: &B,
     made: &mut Made,
     wanted: bool,
     line: &[Token],
 ) -> Mem<bool>
     requires { Sees made.now }
-    ensures done { IfOk result (λ held. tested file (lookup table.now) wanted line.now (rest_of line.now) made.old.done ≡ Gives held made.new.done) }
+    ensures done { IfOk result (λ held. tested file (lookup (B.macros base.now) table.now) wanted line.now (rest_of line.now) made.old.done ≡ Gives held made.new.done) }
     ensures events { OnOk result (made.new.done.events ≡ made.old.done.events) }
     ensures sees { OnOk result (Sees made.new) }
 {
@@ -120,22 +122,29 @@ fn tested(
     }
     look(alloc, made, &name.text)?;
     extra(&mut made.done.faults, file, rest)?;
-    let defined = is_defined(alloc, table, &name.text)?;
+    let defined = is_defined(alloc, table, base, &name.text)?;
     Ok(by_name(wanted, defined))
 }
 
 /// Goes over an `#if` or `#elif`, and answers whether its condition is fulfilled.
-fn ask(alloc: Global, file: &File, table: &MacroTable, made: &mut Made, line: &[Token]) -> Mem<bool>
+fn ask<B: MacroBase>(
+    alloc: Global,
+    file: &File,
+    table: &MacroTable,
+    base: &B,
+    made: &mut Made,
+    line: &[Token],
+) -> Mem<bool>
     requires { Sees made.now }
-    ensures done { (w : World) → Suits file.now w → Within (length w.text) line.now → IfOk result (λ held. Takes file.now.number (rules_in w (lookup table.now)) (number_of table.now) line.now (asking file.now.number (lookup table.now) line.now made.old.done) held made.new.done) }
+    ensures done { (w : World) → Suits file.now w → Within (length w.text) line.now → IfOk result (λ held. Takes file.now.number (rules_in w (lookup (B.macros base.now) table.now)) (number_of (B.events base.now) table.now) line.now (asking file.now.number (lookup (B.macros base.now) table.now) line.now made.old.done) held made.new.done) }
     ensures events { OnOk result (made.new.done.events ≡ made.old.done.events) }
     ensures sees { OnOk result (Sees made.new) }
 {
     let names = asked(alloc, rest_of(line))?;
     look_all(alloc, made, names.as_slice())?;
-    let tokens = decided(alloc, file.number, table, rest_of(line))?;
+    let tokens = decided(alloc, file.number, table, base, rest_of(line))?;
     let reach = Reach::Directive(made.done.tokens.len() as u32);
-    let tokens = replaced(alloc, file, table, made, reach, tokens.as_slice())?;
+    let tokens = replaced(alloc, file, table, base, made, reach, tokens.as_slice())?;
     let value = eval_if(alloc, tokens.as_slice())?;
     bad_if(
         &mut made.done.faults,

@@ -14,23 +14,24 @@ use crate::line::add;
 use crate::looked::look;
 use crate::made::Made;
 use crate::token::span_at;
-use cl_base::{Diag, Duplicate, EmptyBase, List, Macro, MacroEvent, Mem, Name, Span, Token};
+use cl_base::{Diag, Duplicate, List, Macro, MacroEvent, Mem, Name, Span, Token};
 use cl_define::read_define;
-use cl_macro::{Defined, MacroTable};
+use cl_macro::{Defined, MacroBase, MacroTable};
 use std::alloc::Global;
 
 /// Goes over a `#define`.
-pub(crate) fn defining(
+pub(crate) fn defining<B: MacroBase>(
     alloc: Global,
     file: u32,
     table: &mut MacroTable,
+    base: &B,
     made: &mut Made,
     name: &Token,
     rest: &[Token],
 ) -> Mem<()>
     requires { Sees made.now }
-    ensures done { (w : World) (line : TheList TheToken) → OnOk result (Takes file (rules_in w (lookup table.old)) (number_of table.old) line (defining file name.now rest.now made.old.done) false made.new.done) }
-    ensures keeps { (start : Start) → Keeps start table.old made.old.done → OnOk result (Keeps start table.new made.new.done) }
+    ensures done { (w : World) (line : TheList TheToken) → OnOk result (Takes file (rules_in w (lookup (B.macros base.now) table.old)) (number_of (B.events base.now) table.old) line (defining file name.now rest.now made.old.done) false made.new.done) }
+    ensures keeps { (start : Start) → Keeps (B.macros base.now) (B.events base.now) start table.old made.old.done → OnOk result (Keeps (B.macros base.now) (B.events base.now) start table.new made.new.done) }
     ensures sees { OnOk result (Sees made.new) }
 {
     let Some((token, _)) = rest.split_first() else {
@@ -39,26 +40,27 @@ pub(crate) fn defining(
     if !token.kind.is_ident() {
         return add(&mut made.done.faults, file, 6, name);
     }
-    define(alloc, file, table, made, rest)?;
+    define(alloc, file, table, base, made, rest)?;
     Ok(())
 }
 
 /// Goes over the tokens behind `define`.
-fn define(
+fn define<B: MacroBase>(
     alloc: Global,
     file: u32,
     table: &mut MacroTable,
+    base: &B,
     made: &mut Made,
     tokens: &[Token],
 ) -> Mem<()>
     requires { Sees made.now }
-    ensures done { (w : World) → OnOk result (IsDefinition file (rules_in w (lookup table.old)) tokens.now made.old.done made.new.done) }
-    ensures keeps { (start : Start) → Keeps start table.old made.old.done → OnOk result (Keeps start table.new made.new.done) }
+    ensures done { (w : World) → OnOk result (IsDefinition file (rules_in w (lookup (B.macros base.now) table.old)) tokens.now made.old.done made.new.done) }
+    ensures keeps { (start : Start) → Keeps (B.macros base.now) (B.events base.now) start table.old made.old.done → OnOk result (Keeps (B.macros base.now) (B.events base.now) start table.new made.new.done) }
     ensures sees { OnOk result (Sees made.new) }
 {
     let found = read_define(alloc, tokens, place_of(file, tokens))?;
     match found {
-        Some(mac) => give(alloc, file, table, made, tokens, mac),
+        Some(mac) => give(alloc, file, table, base, made, tokens, mac),
         None => invalid(&mut made.done.faults, file, tokens),
     }
 }
@@ -103,23 +105,24 @@ fn redefined(
 }
 
 /// Gives the name its macro from here on.
-fn give(
+fn give<B: MacroBase>(
     alloc: Global,
     file: u32,
     table: &mut MacroTable,
+    base: &B,
     made: &mut Made,
     tokens: &[Token],
     mac: Macro,
 ) -> Mem<()>
     requires { Sees made.now }
-    ensures done { OnOk result (IsGiven file (lookup table.old) tokens.now mac made.old.done made.new.done) }
-    ensures keeps { (start : Start) → Keeps start table.old made.old.done → OnOk result (Keeps start table.new made.new.done) }
+    ensures done { OnOk result (IsGiven file (lookup (B.macros base.now) table.old) tokens.now mac made.old.done made.new.done) }
+    ensures keeps { (start : Start) → Keeps (B.macros base.now) (B.events base.now) start table.old made.old.done → OnOk result (Keeps (B.macros base.now) (B.events base.now) start table.new made.new.done) }
     ensures sees { OnOk result (Sees made.new) }
 {
     let name = mac.name.duplicate(alloc)?;
     look(alloc, made, &name)?;
     let copy = mac.duplicate(alloc)?;
-    let answer = table.define(alloc, &EmptyBase, mac)?;
+    let answer = table.define(alloc, base, mac)?;
     tell_defined(alloc, file, made, answer, name, copy, tokens)?;
     Ok(())
 }

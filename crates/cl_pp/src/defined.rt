@@ -6,24 +6,25 @@ ghost use Rattle.cl_pp.specs.Defined.{asked, asked_for, decided, digit, end_afte
 ghost use Rattle.cl_pp.specs.code.Keeping.{lookup};
 
 use crate::token::{span_at, spread};
-use cl_base::{Duplicate, EmptyBase, Kind, List, Mem, Name, PpToken, Token};
-use cl_macro::MacroTable;
+use cl_base::{Duplicate, Kind, List, Mem, Name, PpToken, Token};
+use cl_macro::{MacroBase, MacroTable};
 use std::alloc::Global;
 
 /// The tokens of a condition, where each `defined NAME` and `defined ( NAME )` is 1 or 0 (N1570 6.10.1p1).
-pub(crate) fn decided(
+pub(crate) fn decided<B: MacroBase>(
     alloc: Global,
     file: u32,
     table: &MacroTable,
+    base: &B,
     tokens: &[Token],
 ) -> Mem<List<PpToken>>
-    ensures { IfOk result (λ all. all ≡ decided file (lookup table.now) tokens.now) }
+    ensures { IfOk result (λ all. all ≡ decided file (lookup (B.macros base.now) table.now) tokens.now) }
 {
     let mut all = List::new(alloc);
     let mut rest = tokens;
     while let Some((token, after)) = rest.split_first() {
         let count = taken(token, after);
-        let token = replaced(alloc, file, table, token, count, after)?;
+        let token = replaced(alloc, file, table, base, token, count, after)?;
         all.push(token)?;
         let (_, left) = after.split_at(count);
         rest = left;
@@ -32,10 +33,15 @@ pub(crate) fn decided(
 }
 
 /// Whether the name is a macro.
-pub(crate) fn is_defined(alloc: Global, table: &MacroTable, name: &Name) -> Mem<bool>
-    ensures { IfOk result (λ holds. holds ≡ is_some (lookup table.now name.now)) }
+pub(crate) fn is_defined<B: MacroBase>(
+    alloc: Global,
+    table: &MacroTable,
+    base: &B,
+    name: &Name,
+) -> Mem<bool>
+    ensures { IfOk result (λ holds. holds ≡ is_some (lookup (B.macros base.now) table.now name.now)) }
 {
-    let found = table.find(alloc, &EmptyBase, name)?;
+    let found = table.find(alloc, base, name)?;
     Ok(found.is_some())
 }
 
@@ -142,22 +148,23 @@ fn named_len(tokens: &[Token]) -> usize
 }
 
 /// The token, or a number for it and those that belong to it.
-fn replaced(
+fn replaced<B: MacroBase>(
     alloc: Global,
     file: u32,
     table: &MacroTable,
+    base: &B,
     token: &Token,
     count: usize,
     rest: &[Token],
 ) -> Mem<PpToken>
     requires { count ≡ taken token.now rest.now }
-    ensures { IfOk result (λ it. it ≡ replaced file (lookup table.now) token.now rest.now) }
+    ensures { IfOk result (λ it. it ≡ replaced file (lookup (B.macros base.now) table.now) token.now rest.now) }
 {
     if count == 0 {
         spread(alloc, file, token)
     } else {
         let name = name_of(alloc, rest)?;
-        let holds = is_defined(alloc, table, &name)?;
+        let holds = is_defined(alloc, table, base, &name)?;
         number_for(alloc, file, holds, token, count, rest)
     }
 }

@@ -22,15 +22,16 @@ use crate::shelf::Shelf;
 use cl_base::{Config, List, Mem, Token};
 use cl_cond::Mark;
 use cl_headers::HeaderView;
-use cl_macro::MacroTable;
+use cl_macro::{MacroBase, MacroTable};
 use std::alloc::Global;
 
 /// Goes over a file, and over each that it enters.
-pub(crate) fn read<V: HeaderView>(
+pub(crate) fn read<B: MacroBase, V: HeaderView>(
     alloc: Global,
     config: &Config,
     view: &mut V,
     table: &mut MacroTable,
+    base: &B,
     made: &mut Made,
     shelf: &mut Shelf,
     entry: &Entry,
@@ -39,8 +40,8 @@ pub(crate) fn read<V: HeaderView>(
     requires laid { IsLaid entry.now.text.now entry.now.opened.now }
     requires sound { IsSound (V.known view.now) shelf.now }
     requires sees { Sees made.now }
-    ensures done { (w : World) → IsIn entry.now config.now (V.known view.old) w → Keeps w.start table.old made.old.done → OnOk result (Reads w made.old.done made.new.done) }
-    ensures keeps { (start : Start) → Keeps start table.old made.old.done → OnOk result (Keeps start table.new made.new.done) }
+    ensures done { (w : World) → IsIn entry.now config.now (V.known view.old) w → Keeps (B.macros base.now) (B.events base.now) w.start table.old made.old.done → OnOk result (Reads w made.old.done made.new.done) }
+    ensures keeps { (start : Start) → Keeps (B.macros base.now) (B.events base.now) start table.old made.old.done → OnOk result (Keeps (B.macros base.now) (B.events base.now) start table.new made.new.done) }
     ensures sees { OnOk result (Sees made.new) }
     ensures fixed { V.known view.new ≡ V.known view.old }
     ensures sound { OnOk result (IsSound (V.known view.old) shelf.new) }
@@ -64,7 +65,16 @@ pub(crate) fn read<V: HeaderView>(
         if is_skipped(mark.part, sections.as_slice()) {
             continue;
         }
-        let came = take_line(alloc, &file, tokens, *mark, &mut sections, table, made)?;
+        let came = take_line(
+            alloc,
+            &file,
+            tokens,
+            *mark,
+            &mut sections,
+            table,
+            base,
+            made,
+        )?;
         if let Some(found) = reach(alloc, config, view, made, entry, came.aim)? {
             let opened = shelf.open(alloc, &found)?;
             let next = Entry {
@@ -74,32 +84,33 @@ pub(crate) fn read<V: HeaderView>(
                 text: found.text.bytes(),
                 opened: &opened,
             };
-            read(alloc, config, view, table, made, shelf, &next)?;
+            read(alloc, config, view, table, base, made, shelf, &next)?;
         }
     }
     Ok(())
 }
 
 /// Goes over a line and passes it, and answers what it comes to.
-fn take_line(
+fn take_line<B: MacroBase>(
     alloc: Global,
     file: &File,
     tokens: &[Token],
     mark: Mark,
     sections: &mut List<Section>,
     table: &mut MacroTable,
+    base: &B,
     made: &mut Made,
 ) -> Mem<Came>
     requires lie { (mark.from ≤ mark.to) × (mark.to ≤ length tokens.now) }
     requires sees { Sees made.now }
-    ensures done { (w : World) → Suits file.now w → Within (length w.text) tokens.now → IfOk result (λ came. ComesBy file.now w table.old (tell (top_of (reverse sections.old))) mark (line_of tokens.now mark) made.old.done came.held came.aim made.new.done) }
-    ensures keeps { (start : Start) → Keeps start table.old made.old.done → OnOk result (Keeps start table.new made.new.done) }
+    ensures done { (w : World) → Suits file.now w → Within (length w.text) tokens.now → IfOk result (λ came. ComesBy (B.macros base.now) (B.events base.now) file.now w table.old (tell (top_of (reverse sections.old))) mark (line_of tokens.now mark) made.old.done came.held came.aim made.new.done) }
+    ensures keeps { (start : Start) → Keeps (B.macros base.now) (B.events base.now) start table.old made.old.done → OnOk result (Keeps (B.macros base.now) (B.events base.now) start table.new made.new.done) }
     ensures sees { OnOk result (Sees made.new) }
     ensures sections { IfOk result (λ came. reverse sections.new ≡ stacked mark.part came.held (reverse sections.old)) }
 {
     let line = &tokens[mark.from as usize..mark.to as usize];
     let here = top(sections.as_slice());
-    let came = act(alloc, file, table, made, mark.part, here, line)?;
+    let came = act(alloc, file, table, base, made, mark.part, here, line)?;
     pass(sections, mark.part, came.held)?;
     Ok(came)
 }

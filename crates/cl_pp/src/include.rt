@@ -17,24 +17,25 @@ use crate::made::{File, Made, Reach};
 use crate::replacing::{replaced, spread_line};
 use crate::token::{fault_in, is_header, span_or};
 use cl_base::{Diag, List, Mem, Name, Path, PpToken, Span, Token};
-use cl_macro::MacroTable;
+use cl_macro::{MacroBase, MacroTable};
 use std::alloc::Global;
 
 /// Goes over an `#include`, and answers what it aims at.
-pub(crate) fn include(
+pub(crate) fn include<B: MacroBase>(
     alloc: Global,
     file: &File,
     table: &MacroTable,
+    base: &B,
     made: &mut Made,
     rest: &[Token],
     line: &[Token],
 ) -> Mem<Aim>
     requires { Sees made.now }
-    ensures done { (w : World) → Suits file.now w → Within (length w.text) rest.now → IfOk result (λ aim. Comes file.now.number (rules_in w (lookup table.now)) (number_of table.now) line.now (including file.now.number rest.now made.old.done) false aim made.new.done) }
+    ensures done { (w : World) → Suits file.now w → Within (length w.text) rest.now → IfOk result (λ aim. Comes file.now.number (rules_in w (lookup (B.macros base.now) table.now)) (number_of (B.events base.now) table.now) line.now (including file.now.number rest.now made.old.done) false aim made.new.done) }
     ensures events { OnOk result (made.new.done.events ≡ made.old.done.events) }
     ensures sees { OnOk result (Sees made.new) }
 {
-    let tokens = operand(alloc, file, table, made, rest)?;
+    let tokens = operand(alloc, file, table, base, made, rest)?;
     let named = named_in(alloc, tokens.as_slice())?;
     let aim = aimed(
         alloc,
@@ -58,15 +59,16 @@ fn is_written(rest: &[Token]) -> bool
 }
 
 /// The tokens of an operand: as they are written, where they begin with a header name, and else replaced.
-fn operand(
+fn operand<B: MacroBase>(
     alloc: Global,
     file: &File,
     table: &MacroTable,
+    base: &B,
     made: &mut Made,
     rest: &[Token],
 ) -> Mem<List<PpToken>>
     requires { Sees made.now }
-    ensures done { (w : World) → Suits file.now w → Within (length w.text) rest.now → IfOk result (λ tokens. IsOperand (is_written rest.now) (rules_in w (lookup table.now)) (number_of table.now) (spread_line file.now.number rest.now) tokens made.old.done made.new.done) }
+    ensures done { (w : World) → Suits file.now w → Within (length w.text) rest.now → IfOk result (λ tokens. IsOperand (is_written rest.now) (rules_in w (lookup (B.macros base.now) table.now)) (number_of (B.events base.now) table.now) (spread_line file.now.number rest.now) tokens made.old.done made.new.done) }
     ensures events { OnOk result (made.new.done.events ≡ made.old.done.events) }
     ensures sees { OnOk result (Sees made.new) }
 {
@@ -75,7 +77,7 @@ fn operand(
         return Ok(tokens);
     }
     let reach = Reach::Directive(made.done.tokens.len() as u32);
-    let tokens = replaced(alloc, file, table, made, reach, tokens.as_slice())?;
+    let tokens = replaced(alloc, file, table, base, made, reach, tokens.as_slice())?;
     Ok(tokens)
 }
 

@@ -13,8 +13,8 @@ ghost use Rattle.cl_pp.specs.code.Keeping.{Replaces, Sees, Suits, before_of, loo
 use crate::looked::look_all;
 use crate::made::{File, Made, Reach};
 use crate::token::spread;
-use cl_base::{EmptyBase, List, Mem, Memory, PpToken, Token};
-use cl_macro::{MacroTable, MacroUse};
+use cl_base::{List, Mem, Memory, PpToken, Token};
+use cl_macro::{MacroBase, MacroTable, MacroUse};
 use std::alloc::Global;
 
 /// How many tokens stand before an outermost invocation that has so many of its run before it.
@@ -46,20 +46,21 @@ fn add_uses(uses: &mut List<MacroUse>, reach: Reach, more: &[MacroUse]) -> Mem<(
 }
 
 /// The tokens that these are replaced by. What is told of it is added.
-pub(crate) fn replaced(
+pub(crate) fn replaced<B: MacroBase>(
     alloc: Global,
     file: &File,
     table: &MacroTable,
+    base: &B,
     made: &mut Made,
     reach: Reach,
     run: &[PpToken],
 ) -> Mem<List<PpToken>>
     requires { Sees made.now }
-    ensures done { (w : World) → Suits file.now w → AreWithin w.text (map fresh run.now) → IfOk result (λ tokens. Replaces (rules_in w (lookup table.now)) (number_of table.now) (before_of reach) run.now tokens made.old.done made.new.done) }
+    ensures done { (w : World) → Suits file.now w → AreWithin w.text (map fresh run.now) → IfOk result (λ tokens. Replaces (rules_in w (lookup (B.macros base.now) table.now)) (number_of (B.events base.now) table.now) (before_of reach) run.now tokens made.old.done made.new.done) }
     ensures events { OnOk result (made.new.done.events ≡ made.old.done.events) }
     ensures sees { OnOk result (Sees made.new) }
 {
-    let all = table.expand(alloc, &EmptyBase, run, file.path, file.lines)?;
+    let all = table.expand(alloc, base, run, file.path, file.lines)?;
     look_all(alloc, made, all.looked.as_slice())?;
     add_uses(&mut made.done.uses, reach, all.uses.as_slice())?;
     append(alloc, &mut made.done.faults, all.faults)?;
@@ -106,21 +107,22 @@ fn append<T: Drop>(alloc: Global, all: &mut List<T>, more: List<T>) -> Mem<()>
 }
 
 /// Adds what a run of text comes to.
-pub(crate) fn run_line(
+pub(crate) fn run_line<B: MacroBase>(
     alloc: Global,
     file: &File,
     table: &MacroTable,
+    base: &B,
     made: &mut Made,
     line: &[Token],
 ) -> Mem<()>
     requires { Sees made.now }
-    ensures done { (w : World) → Suits file.now w → Within (length w.text) line.now → OnOk result (IsRun (rules_in w (lookup table.now)) (number_of table.now) (spread_line file.now.number line.now) made.old.done made.new.done) }
+    ensures done { (w : World) → Suits file.now w → Within (length w.text) line.now → OnOk result (IsRun (rules_in w (lookup (B.macros base.now) table.now)) (number_of (B.events base.now) table.now) (spread_line file.now.number line.now) made.old.done made.new.done) }
     ensures events { OnOk result (made.new.done.events ≡ made.old.done.events) }
     ensures sees { OnOk result (Sees made.new) }
 {
     let run = spread_line(alloc, file.number, line)?;
     let reach = Reach::Run(made.done.tokens.len() as u32);
-    let tokens = replaced(alloc, file, table, made, reach, run.as_slice())?;
+    let tokens = replaced(alloc, file, table, base, made, reach, run.as_slice())?;
     append(alloc, &mut made.done.tokens, tokens)?;
     Ok(())
 }

@@ -2,7 +2,7 @@
 
 ghost use Rattle.std.specs.Prelude.{◌≡◌, length, IfOk};
 ghost use Rattle.std.specs.Option.{option_map};
-ghost use Rattle.cl_pp.specs.Before.{Preprocessed, before_of};
+ghost use Rattle.cl_pp.specs.Before.{Preprocessed, before_over};
 ghost use Rattle.cl_pp.specs.Places.{IfDone, InOrder, in_document, nowhere};
 ghost use Rattle.cl_pp.specs.Preprocessing.{answer_of};
 ghost use Rattle.cl_pp.specs.Standing.{wanted};
@@ -14,12 +14,14 @@ use crate::open::open;
 use crate::reach::wanted;
 use crate::shelf::Shelf;
 use crate::start::PpState;
-use cl_base::{Config, EmptyBase, List, Mem, Path};
+use cl_base::{Config, List, Mem, Path};
 use cl_headers::HeaderView;
+use cl_macro::MacroBase;
 use std::alloc::Global;
 use std::collections::BTreeMap;
 
-/// What becomes of a text that begins where the state says (N1570 5.1.1.2 phases 1 to 4, 6.10): the tokens of its active
+/// What becomes of a text that begins where the state says, over the macros of a base that the state doesn't change (N1570
+/// 5.1.1.2 phases 1 to 4, 6.10): the tokens of its active
 /// lines after macro replacement, in order, where an include line stands for the file that it enters, with the definitions,
 /// the uses of macros, the names that were looked up, the headers that were asked for, and the faults. A directive gives no
 /// token. The text is the file 0, and a header's number is its path's place among the files. `Need` comes exactly at the
@@ -46,17 +48,17 @@ use std::collections::BTreeMap;
 ///
 /// Nothing is looked for in a group that is skipped but where its sections begin and end. A file of more than
 /// 268,435,456 bytes is want of memory.
-pub fn preprocess<V: HeaderView>(
+pub fn preprocess<B: MacroBase, V: HeaderView>(
     alloc: Global,
     start: PpState,
-    _base: &EmptyBase,
+    base: &B,
     path: &Path,
     main: &[u8],
     config: &Config,
     view: &mut V,
 ) -> Mem<PpAnswer>
     requires { start.events ≡ start.macros.events }
-    ensures done { IfOk result (Preprocessed (before_of start) (V.known view.old) config.now.includes path.now main.now (V.asked view.old) (V.asked view.new)) }
+    ensures done { IfOk result (Preprocessed (before_over (B.macros base.now) (B.events base.now) start) (V.known view.old) config.now.includes path.now main.now (V.asked view.old) (V.asked view.new)) }
     ensures order { IfOk result (IfDone (λ done. InOrder nowhere (length main.now) (in_document done.tokens))) }
     ensures fixed { V.known view.new ≡ V.known view.old }
 {
@@ -84,7 +86,7 @@ pub fn preprocess<V: HeaderView>(
         opened: &opened,
     };
     read(
-        alloc, config, view, &mut table, &mut made, &mut shelf, &entry,
+        alloc, config, view, &mut table, base, &mut made, &mut shelf, &entry,
     )?;
     let answer = answer_of(alloc, made.done)?;
     Ok(answer)

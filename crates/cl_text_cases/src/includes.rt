@@ -1,7 +1,7 @@
 //! Texts after phase 4 with the headers that they include.
 
-use crate::escape::unescaped;
 use cl_base::{Config, EmptyBase, Known, List, Mem, Path, Text};
+use cl_cases::unescaped;
 use cl_headers::{HeaderMap, MapView};
 use cl_pp::{PpAnswer, PpDone, PpState, preprocess};
 use std::alloc::Global;

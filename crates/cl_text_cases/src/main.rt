@@ -4,7 +4,6 @@
 
 mod conditions;
 mod definitions;
-mod escape;
 mod faults;
 mod includes;
 mod macros;

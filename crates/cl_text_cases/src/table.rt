@@ -2,9 +2,9 @@
 //! `[section]` begins a section, `#define` defines a macro, and an empty line and one that begins with `;` say nothing. What
 //! is given may have several parts, with ` | ` between them.
 
-use crate::escape::{escaped, unescaped};
 use crate::{conditions, definitions, faults, includes, macros, sections, texts, tokens};
 use cl_base::{Mem, Memory};
+use cl_cases::{escaped, unescaped};
 use cl_macro::MacroTable;
 use std::alloc::Global;
 use std::mem;

@@ -17,6 +17,8 @@ mod laws;
 #[cfg(test)]
 mod macros;
 #[cfg(test)]
+mod over;
+#[cfg(test)]
 mod places;
 #[cfg(test)]
 mod values;

@@ -1,3 +1,4 @@
+mod BadBlocks
 mod BadItems
 mod Frames
 mod Learning

@@ -8,7 +8,7 @@ use Rattle.cl_tree.specs.declared.nonterminal.Nonterminal.TheVariants as nt
 use Rattle.cl_tree.specs.declared.grammar.Terminal.{Terminal}
 use Rattle.cl_tree.specs.declared.grammar.Terminal.TheVariants as te
 use Rattle.cl_tree.specs.declared.grammar.Symbol.{Symbol}
-use Rattle.cl_tree.specs.declared.grammar.Symbol.TheVariants.{Token, Node}
+use Rattle.cl_tree.specs.declared.grammar.Symbol.TheVariants.{Token, Node, Entry}
 use Rattle.cl_tree.specs.declared.grammar.Part.{Part}
 use Rattle.cl_tree.specs.declared.grammar.Part.TheVariants.{One, Optional, Many}
 use Rattle.cl_tree.specs.declared.grammar.Separator.{Separator}
@@ -23,6 +23,7 @@ use Rattle.cl_base.specs.declared.token.PpToken.{PpToken}
 use Rattle.cl_tree.specs.Brackets.{brackets}
 use Rattle.cl_tree.specs.Lexemes.{lexemes}
 use Rattle.cl_tree.specs.Sets.{has}
+use Rattle.cl_tree.specs.BadItems.{partner_of, closes_at, bad_end}
 use Rattle.cl_tree.specs.Grammar.{Production, productions, units, takes, shuns}
 
 -- x stands somewhere in the list
@@ -46,10 +47,13 @@ leaf at = roll-Tree (record { rule = ru.Token; choice = 0; from = at; to = at + 
 abbrev pub hole : ℕ → ℕ → Tree
 hole from to = roll-Tree (record { rule = ru.Hole; choice = 0; from = from; to = to; parts = [] })
 
--- the number of a token's partner
-abbrev pub partner_of : Option Lexeme → ℕ
-partner_of None = 0
-partner_of (Some l) = l.partner
+-- the tree of tokens that are no item
+abbrev pub bad : ℕ → ℕ → Tree
+bad from to = roll-Tree (record { rule = ru.Bad; choice = 0; from = from; to = to; parts = [] })
+
+-- a token is there that ends no block
+abbrev pub Within : List Lexeme → Scope → ℕ → Type 0
+Within ts s at = (c : Class) × (class_at ts s at ≡ Some c) × (c ≡ cl.RightBrace → ⊥) × (closes_at ts at ≡ false)
 
 abbrev pub is_body : Terminal → Bool
 is_body te.Body = true
@@ -123,6 +127,9 @@ module _ (D : Nonterminal → Scope → Tree → Scope → Type 0) (h : ℕ) (ts
   Reads (Token k a) s at p w =
       (1 ≤ h) × (p ≡ piece ts k at) × ((c : Class) × (class_at ts s at ≡ Some c) × Has (takes k) c) × (w ≡ pass ts s a at) × Closed ts s k at
   Reads (Node g) s at p w = D g s p w × (start p ≡ at)
+  Reads Entry s at p w =
+      (D nt.BlockItem s p w × (start p ≡ at))
+      ⊎ ((1 ≤ h) × (p ≡ bad at (bad_end ts at)) × (w ≡ s) × Within ts s at × ((t : Tree) (v : Scope) → D nt.BlockItem s t v → start t ≡ at → ⊥))
 
   -- the same after a separator, if one is asked for
   abbrev pub ReadsAfter : Option Separator → Symbol → Scope → ℕ → Tree → Scope → Type 0

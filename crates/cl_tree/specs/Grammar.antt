@@ -12,7 +12,7 @@ use Rattle.cl_tree.specs.declared.grammar.Terminal.TheVariants as te
 use Rattle.cl_tree.specs.declared.grammar.Act.{Act}
 use Rattle.cl_tree.specs.declared.grammar.Act.TheVariants as ac
 use Rattle.cl_tree.specs.declared.grammar.Symbol.{Symbol}
-use Rattle.cl_tree.specs.declared.grammar.Symbol.TheVariants.{Token, Node}
+use Rattle.cl_tree.specs.declared.grammar.Symbol.TheVariants.{Token, Node, Entry}
 use Rattle.cl_tree.specs.declared.grammar.Part.{Part}
 use Rattle.cl_tree.specs.declared.grammar.Part.TheVariants.{One, Optional, Many}
 use Rattle.cl_tree.specs.declared.grammar.Again.{Again}
@@ -53,6 +53,10 @@ act k a = Token k a
 
 abbrev pub n : Nonterminal → Symbol
 n g = Node g
+
+-- an item of a block, or what is none
+abbrev pub entry : Symbol
+entry = Entry
 
 abbrev pub one : Symbol → Part
 one x = One x
@@ -320,7 +324,7 @@ productions =
     -- compound-statement (6.8.2)
     production nt.CompoundStatement ru.CompoundStatement 0 (one (act (is cl.LeftBrace) ac.Open) ∷ opt (n nt.BlockItemList) ∷ one (act (is cl.RightBrace) ac.Close) ∷ []) ∷
     -- block-item-list (6.8.2)
-    production nt.BlockItemList ru.BlockItemList 0 (one (n nt.BlockItem) ∷ many (n nt.BlockItem) ∷ []) ∷
+    production nt.BlockItemList ru.BlockItemList 0 (one entry ∷ many entry ∷ []) ∷
     -- expression-statement (6.8.3)
     production nt.ExpressionStatement ru.ExpressionStatement 0 (opt (n nt.UnlabelledExpression) ∷ one (t (is cl.Semicolon)) ∷ []) ∷
     -- selection-statement (6.8.4)

@@ -1,3 +1,4 @@
+pub mod BadItems
 pub mod Brackets
 pub mod Derives
 pub mod Ends

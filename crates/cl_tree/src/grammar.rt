@@ -55,6 +55,8 @@ pub enum Symbol {
     Token(Terminal, Act),
     /// A tree of a nonterminal.
     Node(Nonterminal),
+    /// An item of a block, or where none derives what is no item.
+    Entry,
 }
 
 /// A part of a right side.

@@ -1,6 +1,7 @@
 //! Trees of C, its grammar as one table, and what it is for a tree to derive.
 #![tactic(auto)]
 
+mod bad;
 mod bracket;
 mod class;
 mod grammar;
@@ -15,6 +16,7 @@ mod shape;
 mod spelling;
 mod tree;
 
+pub use bad::{bad_end, closes_at};
 pub use bracket::{bad_extent, brackets};
 pub use class::Class;
 pub use grammar::{Act, Again, Part, Production, Separator, Span, Symbol, Terminal, Unit};

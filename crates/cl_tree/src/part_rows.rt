@@ -255,7 +255,7 @@ static PARTS: [Part; 496] = rows! {
     Part::One(node!(Statement)),
     Part::One(token!(is!(Default))), Part::One(token!(is!(Colon))), Part::One(node!(Statement)),
     Part::One(act!(is!(LeftBrace), Open)), Part::Optional(node!(BlockItemList)), Part::One(act!(is!(RightBrace), Close)),
-    Part::One(node!(BlockItem)), Part::Many(node!(BlockItem)),
+    Part::One(Symbol::Entry), Part::Many(Symbol::Entry),
     Part::Optional(node!(UnlabelledExpression)), Part::One(token!(is!(Semicolon))),
     Part::One(token!(is!(If))), Part::One(token!(Terminal::Open)), Part::One(node!(Expression)),
     Part::One(act!(is!(RightParen), Open)), Part::One(node!(Statement)),

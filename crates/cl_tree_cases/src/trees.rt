@@ -83,10 +83,25 @@ fn write_tree(alloc: Global, out: &mut String, tokens: &[PpToken], tree: &Tree) 
     }
     let head = format!(in alloc; "({:?}.{}", tree.rule, tree.choice)?;
     out.push_str(head.as_str())?;
+    if tree.rule == Rule::Bad {
+        write_range(alloc, out, tokens, tree.from, tree.to)?;
+    }
     for part in tree.parts.as_slice() {
         out.push_str(" ")?;
         write_tree(alloc, out, tokens, part)?;
     }
     out.push_str(")")?;
+    Ok(())
+}
+
+/// The tokens from one up to another as they are spelled, each after a space.
+fn write_range(alloc: Global, out: &mut String, tokens: &[PpToken], from: u32, to: u32) -> Mem<()> {
+    for at in from..to {
+        if let Some(token) = tokens.get(at as usize) {
+            let text = String::from_utf8_lossy(alloc, token.text.bytes())?;
+            out.push_str(" ")?;
+            out.push_str(&text)?;
+        }
+    }
     Ok(())
 }

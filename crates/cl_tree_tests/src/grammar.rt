@@ -108,6 +108,7 @@ fn with(alloc: Global, line: &String, symbol: Symbol) -> Mem<String> {
         Symbol::Token(Terminal::Body, _) => format!(in alloc; "{line} CompoundStatement")?,
         Symbol::Token(terminal, _) => format!(in alloc; "{line} {:?}", plain(terminal))?,
         Symbol::Node(goal) => format!(in alloc; "{line} {:?}", standard(goal))?,
+        Symbol::Entry => format!(in alloc; "{line} BlockItem")?,
     };
     Ok(text)
 }

@@ -81,27 +81,28 @@ static CASES: [Case; 9] = [
     },
 ];
 
-/// The height of `{ }` is 2, and each `{` around it makes two more; that of `if (a) ;` is 3, and each `if (a)` before it makes one.
+/// What would make a block higher than 512 is a bad item of it. The height of `if (a) ;` is 3, and each `if (a)` before it
+/// makes one more.
 static STATEMENTS: [Case; 8] = [
     Case {
         before: b"{",
         count: 100_000,
         middle: b"",
         after: b"}",
-        has_tree: false,
+        has_tree: true,
     },
     Case {
-        before: b"{",
-        count: 256,
-        middle: b"",
+        before: b"{ do ",
+        count: 100_000,
+        middle: b";",
         after: b"}",
         has_tree: true,
     },
     Case {
-        before: b"{",
-        count: 257,
+        before: b"{ if (a) ",
+        count: 100_000,
         middle: b"",
-        after: b"}",
+        after: b"",
         has_tree: false,
     },
     Case {
@@ -159,7 +160,7 @@ fn statements(rt: HostRuntime) -> Result<(), Fail> {
         let found = has_tree(alloc, case, Nonterminal::Statement)?;
         assert!(rt; found == case.has_tree, "{}", case.count);
     }
-    assert!(rt; block(alloc)?, "a block of 600,000 items");
+    assert!(rt; block(alloc)?, "a block of 800,000 items");
     Ok(())
 }
 
@@ -200,7 +201,7 @@ fn block(alloc: Global) -> Mem<bool> {
     let mut text = Vec::new(alloc);
     text.extend_from_slice(b"{")?;
     for _ in 0..200_000 {
-        text.extend_from_slice(b"if (T) x; T y; { }")?;
+        text.extend_from_slice(b"if (T) x; T y; 1 +; { }")?;
     }
     text.extend_from_slice(b"}")?;
     let tokens = tokens_of(alloc, text.as_slice())?;
@@ -211,5 +212,5 @@ fn block(alloc: Global) -> Mem<bool> {
     let Some(list) = tree.parts.get(1) else {
         return Ok(false);
     };
-    Ok(tree.to as usize == tokens.len() && list.parts.len() == 600_000)
+    Ok(tree.to as usize == tokens.len() && list.parts.len() == 800_000)
 }

@@ -1,9 +1,9 @@
 //! Types written as chains: a letter for the base, and one for each derivation from it.
 
 use cl_base::{List, Mem, Name};
-use cl_conv::Operand;
+use cl_print::print;
 use cl_specifiers::{array_of, atomic_of, function_of, pointer_to, with_qualifiers};
-use cl_types::{CType, DeclNo, Length, Params, Shared, TagWord, print};
+use cl_types::{CType, DeclNo, Length, Operand, Params, Shared, TagWord};
 use std::alloc::Global;
 
 fn tag(alloc: Global, number: u32, word: TagWord, name: &str) -> Mem<CType> {

@@ -3,16 +3,17 @@
 use crate::chains::{base, operand, said, yes_or_no};
 use cl_base::Mem;
 use cl_conv::{
-    BinaryOp, Operand, UnaryOp, assignable, binary, call, cast, conditional, promote, size_of,
-    takes_count, unary, usual,
+    Access, assignable, binary, call, cast, conditional, member_of, promote, size_of, takes_count,
+    unary, usual,
 };
-use cl_types::{CType, basic_of, print};
+use cl_print::print;
+use cl_types::{BinaryOp, CType, DeclNo, Member, Operand, UnaryOp, basic_of};
 use std::alloc::Global;
 
 /// The letters of the arithmetic types, in the order of their list in N1570 6.2.5.
 const LETTERS: &str = "BcaCsSiIlLqQfdD";
 
-fn binary_op(word: &str) -> BinaryOp {
+pub(crate) fn binary_op(word: &str) -> BinaryOp {
     match word {
         "*" => BinaryOp::Multiply,
         "/" => BinaryOp::Divide,
@@ -22,11 +23,14 @@ fn binary_op(word: &str) -> BinaryOp {
         "<<" => BinaryOp::ShiftLeft,
         ">>" => BinaryOp::ShiftRight,
         "<" => BinaryOp::Less,
+        ">" => BinaryOp::Greater,
+        "<=" => BinaryOp::LessEqual,
         ">=" => BinaryOp::GreaterEqual,
         "==" => BinaryOp::Equal,
         "!=" => BinaryOp::NotEqual,
         "&" => BinaryOp::BitAnd,
         "^" => BinaryOp::BitXor,
+        "|" => BinaryOp::BitOr,
         "&&" => BinaryOp::LogicalAnd,
         "||" => BinaryOp::LogicalOr,
         "*=" => BinaryOp::AssignMultiply,
@@ -35,20 +39,22 @@ fn binary_op(word: &str) -> BinaryOp {
         "%=" => BinaryOp::AssignRemainder,
         "<<=" => BinaryOp::AssignShiftLeft,
         "|=" => BinaryOp::AssignBitOr,
+        "=" => BinaryOp::Assign,
         "[]" => BinaryOp::Index,
         _ => BinaryOp::Comma,
     }
 }
 
-fn unary_op(word: &str) -> UnaryOp {
+pub(crate) fn unary_op(word: &str) -> UnaryOp {
     match word {
         "_++" => UnaryOp::PostIncrement,
         "--" => UnaryOp::PreDecrement,
-        "&" => UnaryOp::AddressOf,
-        "*" => UnaryOp::Dereference,
-        "+" => UnaryOp::Plus,
-        "-" => UnaryOp::Minus,
-        "~" => UnaryOp::Complement,
+        "++_" => UnaryOp::PreIncrement,
+        "&" | "&_" => UnaryOp::AddressOf,
+        "*" | "*_" => UnaryOp::Dereference,
+        "+" | "+_" => UnaryOp::Plus,
+        "-" | "-_" => UnaryOp::Minus,
+        "~" | "~_" => UnaryOp::Complement,
         _ => UnaryOp::Not,
     }
 }
@@ -131,4 +137,63 @@ pub(crate) fn call_of(alloc: Global, text: &str) -> Mem<String> {
 pub(crate) fn size(alloc: Global, text: &str) -> Mem<String> {
     let a = operand(alloc, text)?;
     type_of(alloc, size_of(&a))
+}
+
+/// A member of the type of a chain, a bit-field where a `:` ends it.
+fn member(alloc: Global, text: &str) -> Mem<Member> {
+    let (chain, width) = match text.split_once(":") {
+        Some((chain, _)) => (chain, Some(3)),
+        None => (text, None),
+    };
+    let ty = operand(alloc, chain)?.ty;
+    Ok(Member {
+        decl: DeclNo(9),
+        ty,
+        width,
+    })
+}
+
+/// What an operand is beside its type.
+fn kind_of(found: &Operand) -> &'static str {
+    match (found.lvalue, found.bit_field) {
+        (true, false) => "lvalue",
+        (true, true) => "lvalue, bit-field",
+        (false, false) => "value",
+        (false, true) => "value, bit-field",
+    }
+}
+
+fn access_of(op: &str) -> Access {
+    match op {
+        "->" => Access::Arrow,
+        _ => Access::Dot,
+    }
+}
+
+/// The operand of a chain, which is no lvalue behind `v.`.
+fn left_of(alloc: Global, op: &str, chain: &str) -> Mem<Operand> {
+    let mut a = operand(alloc, chain)?;
+    a.lvalue = op != "v.";
+    Ok(a)
+}
+
+/// The type of an operand and what else it is, or `-` for none.
+fn described(alloc: Global, found: Option<Operand>) -> Mem<String> {
+    match found {
+        Some(found) => {
+            let name = print(alloc, &found.ty, "")?;
+            let shown = format!(in alloc; "{name}, {}", kind_of(&found))?;
+            Ok(shown)
+        }
+        None => said(alloc, None),
+    }
+}
+
+/// Access to a member: `.` and `->` of an object, `v.` of a value.
+pub(crate) fn part_of(alloc: Global, op: &str, operands: &str) -> Mem<String> {
+    let (left, right) = operands.split_once(" ").unwrap_or((operands, ""));
+    let a = left_of(alloc, op, left)?;
+    let member = member(alloc, right)?;
+    let found = member_of(alloc, access_of(op), &a, &member)?;
+    described(alloc, found)
 }

@@ -11,8 +11,17 @@ use std::alloc::Global;
 
 /// The structures and unions of a case, by their numbers.
 #[derive(Drop)]
-struct Tags {
+pub(crate) struct Tags {
     members: List<List<Member>>,
+}
+
+impl Tags {
+    /// No structures and no unions.
+    pub(crate) fn none(alloc: Global) -> Tags {
+        Tags {
+            members: List::new(alloc),
+        }
+    }
 }
 
 impl Members for Tags {

@@ -1,12 +1,13 @@
 //! Constants and string literals as tokens, and their faults.
 
-use crate::escape::unescaped;
 use cl_base::{Kind, List, Mem, Name, PpToken, Span};
+use cl_cases::unescaped;
 use cl_conv::of_basic;
 use cl_literals::{
     NumberConstant, char_value, elements, faults, literal_prefix, number, prefix_of,
 };
-use cl_types::{Basic, print};
+use cl_print::print;
+use cl_types::Basic;
 use std::alloc::Global;
 
 fn name_of(alloc: Global, basic: Basic) -> Mem<String> {

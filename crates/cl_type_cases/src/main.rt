@@ -3,8 +3,8 @@
 #![tactic(auto)]
 
 mod chains;
+mod constants;
 mod conversions;
-mod escape;
 mod layouts;
 mod literals;
 mod specifiers;

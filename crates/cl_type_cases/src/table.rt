@@ -1,7 +1,7 @@
 //! A table of cases. A line with ` => ` is a case: what is given, and behind the arrow what it comes to. Of the other lines
 //! `[section]` begins a section, and all else says nothing. What is given may have two parts, with ` | ` between them.
 
-use crate::{conversions, layouts, literals, specifiers, types};
+use crate::{constants, conversions, layouts, literals, specifiers, types};
 use cl_base::Mem;
 use std::alloc::Global;
 
@@ -32,6 +32,9 @@ enum Section {
     Calls,
     /// An operand of `sizeof` (6.5.3.4).
     Sizes,
+    /// An operator of member access with its left operand and a member, with the type of the access, whether it is an lvalue, and
+    /// whether it is a bit-field (6.5.2.3).
+    Members,
     /// Type specifiers and typedef names, with their type (6.7.2p2).
     Words,
     /// A parameter and qualifiers, with its type (6.7.6.3p7, p8).
@@ -52,6 +55,8 @@ enum Section {
     Faults,
     /// Structures and unions, with where the members of the last one begin, its size and its alignment (6.7.2.1).
     Layouts,
+    /// An expression, and the same with each operator behind its operands, with its value as a constant one (6.6p6).
+    Constants,
 }
 
 /// What stands between the lines of a table.
@@ -103,6 +108,7 @@ fn found(alloc: Global, section: Section, first: &str, second: &str) -> Mem<Stri
         Section::Casts => conversions::cast_of(alloc, first, second),
         Section::Calls => conversions::call_of(alloc, first),
         Section::Sizes => conversions::size(alloc, first),
+        Section::Members => conversions::part_of(alloc, first, second),
         Section::Words => specifiers::base_of(alloc, first, second),
         Section::Adjusted => specifiers::parameter(alloc, first, second),
         Section::Qualified => specifiers::qualified_of(alloc, first, second),
@@ -113,6 +119,7 @@ fn found(alloc: Global, section: Section, first: &str, second: &str) -> Mem<Stri
         Section::Strings => literals::string_of(alloc, first),
         Section::Faults => literals::faults_of(alloc, first),
         Section::Layouts => layouts::layout_of(alloc, first),
+        Section::Constants => constants::value_of(alloc, second),
     }
 }
 
@@ -129,6 +136,7 @@ fn section_of(name: &str) -> Section {
         "[casts]" => Section::Casts,
         "[calls]" => Section::Calls,
         "[sizeof]" => Section::Sizes,
+        "[members]" => Section::Members,
         "[words]" => Section::Words,
         "[adjusted]" => Section::Adjusted,
         "[qualified]" => Section::Qualified,
@@ -139,6 +147,7 @@ fn section_of(name: &str) -> Section {
         "[strings]" => Section::Strings,
         "[faults]" => Section::Faults,
         "[layouts]" => Section::Layouts,
+        "[constants]" => Section::Constants,
         _ => Section::Printed,
     }
 }

@@ -2,8 +2,9 @@
 
 use crate::chains::{chain, yes_or_no};
 use cl_base::Mem;
+use cl_print::print;
 use cl_specifiers::pointer_to;
-use cl_types::{CType, compatible, composite, print};
+use cl_types::{CType, compatible, composite};
 use std::alloc::Global;
 
 /// A name declared with the type of a chain, or `-` where a derivation is refused.

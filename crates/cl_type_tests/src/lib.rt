@@ -2,4 +2,6 @@
 #![tactic(auto)]
 
 #[cfg(test)]
+mod layouts;
+#[cfg(test)]
 mod relations;

@@ -12,7 +12,7 @@ use Rattle.cl_types.specs.declared.types.Params.{Params}
 use Rattle.cl_types.specs.declared.types.Params.TheVariants as make_params
 use Rattle.cl_types.specs.Composite.{Composed, compose, compose_listed, composed, composed_params, composite, longer}
 use Rattle.cl_types.specs.Form.{Form, Form as f, form, unqualified, unqualified_by, listed}
-use Rattle.cl_types.specs.Normal.{Normal, all_hold, is_normal, listed_hold, normal, normal_by}
+use Rattle.cl_types.specs.Normal.{Normal, all_hold, are_normal, is_normal, listed_hold, normal, normal_by}
 use Rattle.cl_types.specs.Qualify.{qualified, qualify, qualifying, with_qualifiers}
 use Rattle.cl_types.proofs.CompatibleLemmas.{form_map, map_form}
 use Rattle.cl_types.proofs.CompositeLemmas.{IsGood, bare_composite, both_true, composed_params_out, composite_layers, good_of, inner_type, joint, left_true, normal_layers, normal_params, normal_params_out, normal_parts, out_array, out_atomic, out_function, out_pointer, out_proto, out_qualified, proto_of, right_true, together, unlisted, whole_parts}
@@ -184,3 +184,22 @@ pointer_kept t p = holds_of _ _ (out_pointer t) p
 
 pub array_kept : (t : CType) (n : Length) → is_normal t ≡ true → is_normal (make.Array t n) ≡ true
 array_kept t n p = holds_of _ _ (out_array t n) p
+
+pub function_kept : (t : CType) (ps : Params) → is_normal t ≡ true → are_normal ps ≡ true → is_normal (make.Function t ps) ≡ true
+function_kept t ps p q = holds_of _ _ (out_function t ps) (both_true _ _ p q)
+
+pub unqualified_kept : (t : CType) → is_normal t ≡ true → is_normal (unqualified t) ≡ true
+unqualified_kept t p = (inner_type t p).0
+
+pub atomic_kept : (t : CType) → is_normal t ≡ true → is_normal (make.Atomic t) ≡ true
+atomic_kept t p = holds_of _ _ (out_atomic t) p
+
+pub atomic_within_kept : (q : ℕ) (t : CType) → is_normal (make.Qualified q t) ≡ true → is_normal (make.Qualified q (make.Atomic t)) ≡ true
+atomic_within_kept q t p =
+    let good : IsGood (f.Qualified q t) = good_of (make.Qualified q t) (f.Qualified q t) (out_qualified q t) p in
+    let within : is_normal (make.Atomic t) ≡ true = atomic_kept t (left_true _ _ (left_true _ _ good)) in
+    let bare : (normal (make.Atomic t)).bare ≡ true = bare_of (make.Atomic t) (f.Atomic t) (out_atomic t) refl in
+    holds_of _ _ (out_qualified q (make.Atomic t)) (both_true _ _ (both_true _ _ within bare) (right_true _ _ good))
+
+pub element_kept : (t : CType) (n : Length) → is_normal (make.Array t n) ≡ true → is_normal t ≡ true
+element_kept t n p = good_of (make.Array t n) (f.Array t n) (out_array t n) p

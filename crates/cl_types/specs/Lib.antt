@@ -1,8 +1,9 @@
 pub mod Compatible
 pub mod Composite
 pub mod Form
+pub mod Kinds
 pub mod Normal
-pub mod Print
 pub mod Qualify
+pub mod Usual
 pub mod code
 pub mod formers

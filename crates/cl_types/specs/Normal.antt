@@ -65,3 +65,7 @@ normal = fold-CType Normal (Option (List Normal × Bool)) (λ l. normal_by (form
 -- no type within is qualified twice, and no array, function or type in error is qualified (6.7.3)
 abbrev pub is_normal : CType → Bool
 is_normal t = (normal t).holds
+
+-- the same of each parameter
+abbrev pub are_normal : Params → Bool
+are_normal ps = listed_hold (fold-Params Normal (Option (List Normal × Bool)) (λ l. normal_by (form l)) listed ps)

@@ -1,7 +1,7 @@
 //! The records of a translation unit.
 
 use crate::types::{CType, DeclNo};
-use cl_base::{Diag, Known, List, MacroEvent, MacroNo, Name, Path, Span};
+use cl_base::{Diag, Known, List, MacroEvent, MacroNo, Name, Path, Span, Text};
 
 /// What a declaration declares.
 #[derive(Clone, Copy)]
@@ -119,4 +119,30 @@ pub struct Unit {
     pub uses: List<Use>,
     pub diags: List<Diag>,
     pub deps: List<Dep>,
+}
+
+/// The beginning of a unit, and the unit of the rest of its text over it. Its lists are those of the base followed by those of the
+/// unit, and its entities the base's as the unit changed them.
+#[derive(Drop)]
+pub struct UnitView<'a, B> {
+    pub base: &'a B,
+    pub unit: &'a Unit,
+}
+
+/// An include line (N1570 6.10.2): whether the header's name stands in angle brackets, and the name.
+#[derive(Drop)]
+pub struct IncludeLine {
+    pub angled: bool,
+    pub name: Text,
+}
+
+/// What a stored beginning of a unit was made by: its include line, and how many files, names, macro events and declarations it
+/// made.
+#[derive(Drop)]
+pub struct Import {
+    pub line: IncludeLine,
+    pub files: u32,
+    pub names: u32,
+    pub macros: u32,
+    pub decls: u32,
 }

@@ -3,7 +3,7 @@ use Rattle.std.specs.Prelude.{◌≡◌, ℕ, zero, suc, ◌≤◌, ◌<◌, ◌
 use Rattle.cl_tree.specs.declared.class.Class.{Class}
 use Rattle.cl_tree.specs.declared.nonterminal.Nonterminal.{Nonterminal}
 use Rattle.cl_tree.specs.declared.grammar.Symbol.{Symbol}
-use Rattle.cl_tree.specs.declared.grammar.Symbol.TheVariants.{Token, Node}
+use Rattle.cl_tree.specs.declared.grammar.Symbol.TheVariants.{Token, Node, Entry}
 use Rattle.cl_tree.specs.declared.grammar.Separator.{Separator}
 use Rattle.cl_expr.specs.declared.table.Edge.{Edge}
 use Rattle.cl_expr.specs.declared.table.Head.{Head}
@@ -17,7 +17,7 @@ use Rattle.cl_tree.specs.declared.lexeme.Lexeme.{Lexeme}
 use Rattle.cl_tree.specs.declared.scope.Scope.{Scope}
 use Rattle.cl_tree.specs.Scopes.{class_at, leave}
 use Rattle.cl_tree.specs.Grammar.{takes}
-use Rattle.cl_expr.specs.code.Table.{edges, scoped, home, corner, kinds, openers, suffixes, firsts, ends, goes}
+use Rattle.cl_expr.specs.code.Table.{edges, scoped, home, corner, kinds, openers, suffixes, firsts, ends, goes, entry_classes}
 use Rattle.cl_tree.specs.Derives.{Has, start, end, parts, Opened}
 use Rattle.cl_expr.specs.code.Paths.{name, node, Ended, ReadsAfter, Path, Kind, At}
 
@@ -34,6 +34,7 @@ Tall (suc k) t = AllOf (Tall k) (parts t)
 abbrev pub BeginsSymbol : Symbol → Class → Type 0
 BeginsSymbol (Token c a) k = Has (takes c) k
 BeginsSymbol (Node g) k = Has (firsts g) k
+BeginsSymbol Entry k = Has entry_classes k
 
 -- or the separator before it
 abbrev pub Begins : Option Separator → Symbol → Class → Type 0
@@ -55,16 +56,18 @@ Halts cs w q at = (k : Class) → class_at cs w at ≡ Some k → Has (ends q) k
 abbrev pub StopsSymbol : List Lexeme → Scope → Symbol → ℕ → Type 0
 StopsSymbol cs w (Token c a) at = Unit {0}
 StopsSymbol cs w (Node g) at = Stops cs w g at
+StopsSymbol cs w Entry at = Unit {0}
 
 abbrev pub Gives : Option Found → Tree → ℕ → Scope → Type 0
 Gives None t z w = ⊥
 Gives (Some f) t z w = (f.tree ≡ t) × (f.place ≡ z) × (f.scope ≡ w)
 
--- what was found is a tree of its kind and of its height, and no lower
+-- what was found is a tree of its kind by this height, is that high itself, and no lower: with a lower bound other items of its blocks may derive
 pub record Sound (cs : List Lexeme) (h : ℕ) (s : Scope) (f : Found) : Type 0 where
-  pub kind : Kind cs f.height f.place s f.tree f.scope
+  pub kind : Kind cs h f.place s f.tree f.scope
   pub grows : start f.tree < end f.tree
   pub within : end f.tree ≤ length cs
+  pub tall : Tall f.height f.tree
   pub least : (k : ℕ) → Tall k f.tree → f.height ≤ k
   pub high : f.height ≤ h
 
@@ -84,9 +87,10 @@ pub record Nests (cs : List Lexeme) (h : ℕ) (pre : Global → Bor (List Lexeme
 
 -- a part that was read
 pub record SoundPart (cs : List Lexeme) (h : ℕ) (s : Scope) (b : Option Separator) (x : Symbol) (at : ℕ) (f : Found) : Type 0 where
-  pub reads : (n : ℕ) → f.height ≤ n → ReadsAfter (At cs n) n cs b x f.place s at f.tree f.scope
+  pub reads : ReadsAfter (At cs h) h cs b x f.place s at f.tree f.scope
   pub grows : at < end f.tree
   pub within : end f.tree ≤ length cs
+  pub tall : Tall f.height f.tree
   pub least : (k : ℕ) → Tall k f.tree → f.height ≤ k
   pub high : f.height ≤ h
 
@@ -97,8 +101,9 @@ pub record Part (cs : List Lexeme) (h : ℕ) (s : Scope) (b : Option Separator) 
 
 -- part of a production has been read, up to a place of it; sa before it, sm there
 pub record Half (cs : List Lexeme) (h : ℕ) (sa sm : Scope) (q : ℕ) (ps : List Tree) (from mid height : ℕ) : Type 0 where
-  pub joins : (n to : ℕ) (rest : List Tree) (z : ℕ) (sv : Scope) → height ≤ n → Path (At cs n) n cs q sm mid to rest z sv
-      → Path (At cs n) n cs (home q) sa from to (ps ++ rest) z sv
+  pub joins : (to : ℕ) (rest : List Tree) (z : ℕ) (sv : Scope) → Path (At cs h) h cs q sm mid to rest z sv
+      → Path (At cs h) h cs (home q) sa from to (ps ++ rest) z sv
+  pub tall : AllOf (Tall height) ps
   pub least : (k : ℕ) → AllOf (Tall k) ps → height ≤ k
   pub plain : corner q ≡ None
   pub within : mid ≤ length cs

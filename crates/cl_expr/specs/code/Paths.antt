@@ -1,16 +1,18 @@
 -- The parser's own view of a tree: its parts lie on a way through the places of its production. proofs/Bridge shows that such trees are those that derive.
-use Rattle.std.specs.Prelude.{◌≡◌, ℕ, zero, suc, ◌+◌, ◌≤◌, List, [], ◌∷◌, Option, Some, None, length}
+use Rattle.std.specs.Prelude.{◌≡◌, ℕ, zero, suc, ◌+◌, ◌≤◌, List, [], ◌∷◌, Option, Some, None, length, ◌⊎◌}
 use Rattle.cl_tree.specs.declared.class.Class.{Class}
 use Rattle.cl_tree.specs.declared.nonterminal.Nonterminal.{Nonterminal}
 use Rattle.cl_tree.specs.declared.grammar.Symbol.{Symbol}
-use Rattle.cl_tree.specs.declared.grammar.Symbol.TheVariants.{Token, Node}
+use Rattle.cl_tree.specs.declared.grammar.Symbol.TheVariants.{Token, Node, Entry}
+use Rattle.cl_tree.specs.declared.nonterminal.Nonterminal.TheVariants as nt
 use Rattle.cl_tree.specs.declared.grammar.Separator.{Separator}
 use Rattle.cl_tree.specs.declared.tree.Tree.{Tree, out-Tree, roll-Tree}
 use Rattle.cl_tree.specs.declared.lexeme.Lexeme.{Lexeme}
 use Rattle.cl_tree.specs.declared.scope.Scope.{Scope}
 use Rattle.cl_tree.specs.Grammar.{takes}
 use Rattle.cl_tree.specs.Scopes.{class_at, pass, leave}
-use Rattle.cl_tree.specs.Derives.{Has, start, end, parts, piece, Closed, Opened}
+use Rattle.cl_tree.specs.Derives.{Has, start, end, parts, piece, Closed, Opened, Within, bad}
+use Rattle.cl_tree.specs.BadItems.{bad_end}
 use Rattle.cl_expr.specs.declared.table.Edge.{Edge}
 use Rattle.cl_expr.specs.declared.table.Label.{Label}
 use Rattle.cl_expr.specs.code.Table.{edges, name_of, bars, scoped, turn, home, kinds}
@@ -31,6 +33,9 @@ module _ (D : Nonterminal → ℕ → Scope → Tree → Scope → Type 0) (h : 
   abbrev pub Reads : Symbol → ℕ → Scope → ℕ → Tree → Scope → Type 0
   Reads (Token k a) y s at p w = (y ≡ 0) × (1 ≤ h) × (p ≡ piece cs k at) × ((c : Class) × (class_at cs s at ≡ Some c) × Has (takes k) c) × (w ≡ pass cs s a at) × Closed cs s k at
   Reads (Node g) y s at p w = D g y s p w × (start p ≡ at)
+  Reads Entry y s at p w =
+      (D nt.BlockItem y s p w × (start p ≡ at))
+      ⊎ ((y ≡ 0) × (1 ≤ h) × (p ≡ bad at (bad_end cs at)) × (w ≡ s) × Within cs s at × ((t : Tree) (z : ℕ) (v : Scope) → D nt.BlockItem z s t v → start t ≡ at → ⊥))
 
   -- the same after a separator, if one is asked for
   abbrev pub ReadsAfter : Option Separator → Symbol → ℕ → Scope → ℕ → Tree → Scope → Type 0

@@ -1,5 +1,5 @@
 -- What the code keeps beside what is made.
-use Rattle.std.specs.Prelude.{◌≡◌, ℕ, ◌+◌, List, Option, None, is_some, length}
+use Rattle.std.specs.Prelude.{◌≡◌, ℕ, ◌+◌, List, Option, is_some, length}
 use Rattle.std.specs.Cmp.Lexicographic.{slice_cmp}
 use Rattle.std.specs.Ordering.{nat_cmp}
 use Rattle.std.specs.BTreeMap.{get}
@@ -22,21 +22,22 @@ use Rattle.cl_pp.specs.declared.made.Made.{Made}
 use Rattle.cl_pp.specs.declared.made.Reach.{Reach}
 use Rattle.cl_pp.specs.declared.made.Reach.TheVariants as reach
 
--- nothing goes before the file
-abbrev pub lookup : MacroTable → List ℕ → Option Macro
-lookup table = macro_of table (λ name. None)
+-- the macro of a name, over a base that gives names these macros
+abbrev pub lookup : (List ℕ → Option Macro) → MacroTable → List ℕ → Option Macro
+lookup macros table = macro_of table macros
 
-abbrev pub number_of : MacroTable → List ℕ → Option MacroNo
-number_of table = event_of table (λ name. None)
+-- the number of its last event, over a base where names have these
+abbrev pub number_of : (List ℕ → Option MacroNo) → MacroTable → List ℕ → Option MacroNo
+number_of numbers table = event_of table numbers
 
 -- the names that are kept are those that were looked up
 abbrev pub Sees : Made → Type 0
 Sees made = (name : List ℕ) → is_some (get (slice_cmp nat_cmp) made.seen name) ≡ contains made.done.looked name
 
--- the macros are those of the events
-pub record Keeps (start : Start) (table : MacroTable) (done : PpDone) : Type 0 where
-  pub macros_are : (name : List ℕ) → lookup table name ≡ macro_at start done name
-  pub numbers_are : (name : List ℕ) → number_of table name ≡ number_at start done name
+-- over a base with these macros and events: the macros are those of the events
+pub record Keeps (macros : List ℕ → Option Macro) (numbers : List ℕ → Option MacroNo) (start : Start) (table : MacroTable) (done : PpDone) : Type 0 where
+  pub macros_are : (name : List ℕ) → lookup macros table name ≡ macro_at start done name
+  pub numbers_are : (name : List ℕ) → number_of numbers table name ≡ number_at start done name
   pub count : table.events ≡ start.events + length done.events
 
 -- the file is this one

@@ -1,12 +1,10 @@
 -- The code's way with types without parts.
-use Rattle.std.specs.Prelude.{ℕ, ◌==◌, ◌&&◌, Bool, true, false, List, ◌++◌, codes}
+use Rattle.std.specs.Prelude.{◌==◌, ◌&&◌, Bool, true, false}
 use Rattle.cl_types.specs.declared.types.Basic.{Basic}
 use Rattle.cl_types.specs.declared.types.CType.{CType}
 use Rattle.cl_types.specs.declared.types.CType.TheViews.{out-CType}
 use Rattle.cl_types.specs.declared.types.Params.{Params}
 use Rattle.cl_types.specs.Compatible.{is_int, is_enum}
-use Rattle.cl_types.specs.Print.{basic_word, tag_word, tag_name}
-use Rattle.cl_types.specs.declared.types.CType.TheOpen.{CType-F}
 use Rattle.cl_types.specs.Form.{Form, Form as f, form, place}
 
 abbrev pub arithmetic_by : Basic → Form CType Params → Bool
@@ -29,12 +27,3 @@ leaf_by _ _ = false
 
 abbrev pub same_leaf : CType → CType → Bool
 same_leaf a b = leaf_by (form (out-CType a)) (form (out-CType b))
-
-abbrev pub leaf_base_by : CType-F CType Params → Form CType Params → List ℕ
-leaf_base_by (CType-F.Tag n w name) _ = tag_word w ++ tag_name name
-leaf_base_by _ f.Void = codes "void"
-leaf_base_by _ (f.Arithmetic k) = basic_word k
-leaf_base_by _ _ = codes "(error)"
-
-abbrev pub leaf_base : CType → List ℕ
-leaf_base t = leaf_base_by (out-CType t) (form (out-CType t))

@@ -1,6 +1,6 @@
 use Rattle.std.proofs.Common.{◌∙◌, ◌∷◌, List, Option, Some, ℕ, ap, sym}
 use Rattle.cl_macro.specs.declared.word.Word.{Word}
-use Rattle.cl_macro.specs.declared.level.Seen.{Seen}
+use Rattle.cl_macro.specs.declared.seen.Seen.{Seen}
 use Rattle.cl_macro.specs.Levels.{seen_word}
 use Rattle.cl_macro.specs.Turns.{shared}
 use Rattle.cl_macro.proofs.Lists.{both_nil}

@@ -63,6 +63,35 @@ loop-first-preserved-in-Some-2 g c = λ o text t b within.
       c.in_ok-whole.ensures.large o c.args.file.now text suits k.2,
     )
 
+pub loop-first-preserved-in_ok-tell-2 : goal.loop-first-preserved-in_ok-tell-2
+loop-first-preserved-in_ok-tell-2 g c = λ o text t b within.
+    let k = c.loop-first.invariant o text t b within in
+    let e : c.loop-first.rest.now ≡ c.in-Some.first.now ∷ c.in-Some.behind.now = grind (arith, common_steps) in
+    let v : Within text (map fresh (c.in-Some.first.now ∷ c.in-Some.behind.now)) = subst (λ (ts : List PpToken). Within text (map fresh ts)) e k.1 in
+    let rules : Rules = rules_of (macro_of c.args.table.now (g.B.MacroBase.macros c.args.base.now)) o c.args.file.now text c.in-Some.first.now.at in
+    let suits : Suits rules c.place_of-place.result = record { tells = t; file = sym c.place_of-place.ensures.file; line = sym (c.place_of-place.ensures.line text b v.0) } in
+    let large2 : (out left : List Word) (ns : List Note) → Works rules (fresh c.in-Some.first.now ∷ []) (map fresh c.in-Some.behind.now) out left ns → 65535 < replacements ns =
+    rw c.in_default-2.is at (c.in_ok-whole.ensures.value o c.args.file.now text suits k.2) in
+    let i = not_large rules (fresh c.in-Some.first.now) (map fresh c.in-Some.behind.now) large2 _ refl in
+    let ew : c.fresh-word.result ≡ fresh c.in-Some.first.now = c.fresh-word.ensures ∙ ap fresh c.in_ok-copy.ensures in
+    let level : Level = record { work = c.new.result; rest = c.in-Some.behind; out = c.new-in-Some.result } in
+    let a : ahead level ≡ map fresh c.in-Some.behind.now = ap (λ (xs : List Word). reverse xs ++ map fresh c.in-Some.behind.now) c.new.ensures in
+    let there : turn (macro_of c.args.table.now (g.B.MacroBase.macros c.args.base.now)) c.fresh-word.result (ahead level) ≡ Invokes i.0 i.1 =
+    (λ j. turn (macro_of c.args.table.now (g.B.MacroBase.macros c.args.base.now)) (ew j) (a j)) ∙ i.2 in
+    let mid : Expanded = record { tokens = c.append.new.all; faults = c.loop-first.all.faults; looked = c.loop-first.all.looked; uses = c.loop-first.all.uses } in
+    let p = c.in_ok-stay.ensures.passes in (
+      got_stay (rules_of (macro_of c.args.table.now (g.B.MacroBase.macros c.args.base.now)) o c.args.file.now text)
+          (event_of c.args.table.now (g.B.MacroBase.events c.args.base.now)) c.args.run.now _ c.in-Some.behind.now c.loop-first.all mid _ c.in-Some.first.now c.fresh-word.result i.0 i.1 c.in_ok-count.count
+          level c.stay.new.level c.stay.new.notes c.len-before.result
+          k.0 e ew c.new.ensures refl c.new-in-Some.ensures i.2 (c.in_ok-count.ensures.value i.0 i.1 there) c.in_ok-count.ensures.within large2
+          p c.in_ok-stay.ensures.out
+          (c.in_ok-stay.ensures.notes ∙ ap (λ (ns : List Note). ns ++ stay_notes 17 c.fresh-word.result (take c.in_ok-count.count (ahead level))) c.new-notes.ensures)
+          c.len-before.ensures.value c.in_ok-append.ensures refl refl refl
+          (subst (λ (ns : List Note). Tells (event_of c.args.table.now (g.B.MacroBase.events c.args.base.now)) (all_told c.len-before.result c.in-Some.first.now.at ns) mid c.tell-in-Some.new.self) c.as_slice-in-Some.ensures.value c.in_ok-tell-2.ensures),
+      subst (λ (ws : List Word). Within text ws) (sym p.rest) (within_drop rules text _ (map fresh c.in-Some.behind.now) v.1),
+      c.in_ok-whole.ensures.large o c.args.file.now text suits k.2,
+    )
+
 pub loop-first-preserved : goal.loop-first-preserved
 loop-first-preserved g c = λ o text t b within.
     let k = c.loop-first.invariant o text t b within in

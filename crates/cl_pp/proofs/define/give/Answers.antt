@@ -5,7 +5,7 @@ use Rattle.cl_pp.proofs.Events.{kept_given, told_first}
 use Rattle.cl_pp.proofs.define.give.Goals as goal
 
 pub returns-clause-done : goal.returns-clause-done
-returns-clause-done c = record {
+returns-clause-done g c = record {
   answer = c.in_ok-answer.answer;
   defined = c.in_ok-answer.ensures.answer;
   is = c.in_ok-tell_defined.ensures.done
@@ -15,5 +15,5 @@ returns-clause-done c = record {
 
 pub returns-clause-keeps : goal.returns-clause-keeps
 unfolding returns-clause-done
-returns-clause-keeps c = λ start k.
-    kept_given c.args.file start c.args.table.now c.define.new.self c.args.made.now.done _ c.in_ok-answer.answer c.args.mac c.args.tokens.now k (returns-clause-done c).is c.in_ok-answer.ensures.ok
+returns-clause-keeps g c = λ start k.
+    kept_given c.args.file start c.args.table.now c.define.new.self c.args.made.now.done _ c.in_ok-answer.answer c.args.mac c.args.tokens.now k (returns-clause-done g c).is c.in_ok-answer.ensures.ok

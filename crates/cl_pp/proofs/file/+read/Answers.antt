@@ -94,7 +94,7 @@ loop-mark-preserved g t c =
     let came = c.in_ok-came.came in
     let none : Mark = record { part = Line; from = 0; to = 0 } in
     let mark : Mark = slice_index_or marks c.loop-mark.mark-index none in
-    let deps : c.take_line.new.made.done.deps ≡ c.loop-mark.made.done.deps = line_deps _ text c.loop-mark.table (tell (top_of (reverse c.loop-mark.sections))) mark (line_of tokens mark) c.loop-mark.made.done c.take_line.new.made.done came.held came.aim o.lines
+    let deps : c.take_line.new.made.done.deps ≡ c.loop-mark.made.done.deps = line_deps (g.B.MacroBase.macros c.args.base.now) (g.B.MacroBase.events c.args.base.now) _ text c.loop-mark.table (tell (top_of (reverse c.loop-mark.sections))) mark (line_of tokens mark) c.loop-mark.made.done c.take_line.new.made.done came.held came.aim o.lines
     (λ w s e. c.in_ok-came.ensures.done w s (within_tokens text w.text c.args.entry.now.opened.now.lexed.tokens tokens c.as_slice-tokens.ensures.value (sym e) o.order)) in
     let going = c.is_stopped.ensures in
     elim c.match-branch-4.branch [

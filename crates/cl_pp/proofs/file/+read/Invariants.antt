@@ -15,12 +15,14 @@ abbrev pub invariant-loop-mark : goal.invariant-loop-mark
 invariant-loop-mark g l =
     let known = g.V.HeaderView.known in
     let asked = g.V.HeaderView.asked in
+    let macros = g.B.MacroBase.macros l.base in
+    let numbers = g.B.MacroBase.events l.base in
     record {
       sees : Sees l.made;
       fixed : known l.view ≡ known l.fn.view;
       sound : IsSound (known l.fn.view) l.shelf;
       noted : IsNoted (known l.fn.view) l.initial.made.done.deps l.made.done.deps (asked l.initial.view) (asked l.view);
-      keeps : (start : Start) → Keeps start l.initial.table l.initial.made.done → Keeps start l.table l.made.done;
-      gone : (w : World) → Suits l.file w → IsIn l.entry l.config (known l.fn.view) w → Keeps w.start l.initial.table l.initial.made.done
+      keeps : (start : Start) → Keeps macros numbers start l.initial.table l.initial.made.done → Keeps macros numbers start l.table l.made.done;
+      gone : (w : World) → Suits l.file w → IsIn l.entry l.config (known l.fn.view) w → Keeps macros numbers w.start l.initial.table l.initial.made.done
           → Gone w l.tokens l.marks l.initial.made.done l.made.done (reverse l.sections) l.mark-index;
     }

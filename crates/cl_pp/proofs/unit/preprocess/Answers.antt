@@ -3,7 +3,7 @@ use Rattle.cl_headers.specs.declared.dep.Dep.{Dep}
 use Rattle.cl_headers.specs.Noting.{IsNoted}
 use Rattle.cl_macro.proofs.Teller.{some_teller}
 use Rattle.cl_pp.specs.declared.done.PpDone.{PpDone}
-use Rattle.cl_pp.specs.Before.{before_of}
+use Rattle.cl_pp.specs.Before.{before_over}
 use Rattle.cl_pp.specs.Places.{InOrder, in_document, nowhere}
 use Rattle.cl_pp.specs.Preprocessing.{Reads, World, before_lines, document}
 use Rattle.cl_pp.proofs.Found.{if_done, keeps_first}
@@ -14,7 +14,7 @@ pub returns-clause-done : goal.returns-clause-done
 returns-clause-done g c =
     let known = g.V.HeaderView.known in
     let asked = g.V.HeaderView.asked in
-    let before = before_of c.args.start in
+    let before = before_over (g.B.MacroBase.macros c.args.base.now) (g.B.MacroBase.events c.args.base.now) c.args.start in
     let teller = some_teller in
     let w : World = document teller.0 before.start (known c.args.view.now) c.args.config.now.includes c.args.path.now c.args.main.now in
     let first : PpDone = record {

@@ -13,3 +13,6 @@ returns-in-Node g c =
     rw c.in-Node.is
     (ok_map (Parses c.args.self.now.tokens.now c.args.self.now.depth c.args.scope c.in-Node.goal c.args.at) (Part c.args.self.now.tokens.now c.args.self.now.depth c.args.scope None (Node c.in-Node.goal) c.args.at) c.nonterminal.result
     (λ o p. part_node c.args.self.now.tokens.now c.args.self.now.depth c.args.scope c.in-Node.goal c.args.at o p) c.nonterminal.ensures)
+
+pub returns-in-Entry : goal.returns-in-Entry
+returns-in-Entry g c = rw c.in-Entry.is c.entry.ensures
