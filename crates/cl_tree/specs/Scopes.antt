@@ -130,7 +130,7 @@ passed ts s ac.Declare at = declaring ts s s.typing
 passed ts s ac.Finish at = declaring ts s false
 passed ts s ac.Forget at = record { typing = s.typing; pending = None; changes = s.changes; frames = s.frames; listed = s.listed; aside = s.aside }
 passed ts s ac.Open at = opened s
-passed ts s ac.Close at = closed s
+passed ts s ac.Close at = closed (declaring ts s s.typing)
 passed ts s ac.Shut at = shut (declaring ts s s.typing)
 passed ts s ac.Begin at = begun ts s
 

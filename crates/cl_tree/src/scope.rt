@@ -400,7 +400,11 @@ pub fn pass(tokens: &[Lexeme], scope: Scope, act: Act, at: u32) -> Mem<Scope>
             aside: scope.aside,
         }),
         Act::Open => opened(scope),
-        Act::Close => closed(scope),
+        Act::Close => {
+            let typing = scope.typing;
+            let after = declaring(tokens, scope, typing)?;
+            closed(after)
+        }
         Act::Begin => begun(tokens, scope),
         Act::Shut => {
             let typing = scope.typing;

@@ -1,4 +1,4 @@
-use Rattle.std.proofs.Common.{◌++◌, List, ap, sym, ◌∙◌, not, ◌&&◌, cond, drop}
+use Rattle.std.proofs.Common.{◌++◌, List, ap, ◌∙◌, not, ◌&&◌, cond, drop}
 use Rattle.std.specs.Prelude.{Option, option_to_list}
 use Rattle.cl_tree.specs.declared.scope.Change.{Change}
 use Rattle.cl_tree.specs.declared.scope.Frame.{Frame}
