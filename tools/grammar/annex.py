@@ -12,7 +12,7 @@ CLASSES = ("Ident IdentColon TypedefName TypedefColon Constant String LeftParen 
   "Void Char Short Int Long Float Double Signed Unsigned Bool Struct Union Enum Const Restrict Volatile Atomic AtomicParen Inline Noreturn Alignas Other").split()
 SETS = {'Name': 'Ident IdentColon TypedefName TypedefColon'.split(), 'Open': 'LeftParen TypeParen LiteralParen'.split(), 'TypeOpen': 'TypeParen LiteralParen'.split(), 'Typed': 'TypedefName TypedefColon'.split(),
   'Label': 'IdentColon TypedefColon'.split(), 'Marked': 'IdentColon TypedefName TypedefColon'.split(), 'Body': ['LeftBrace']}
-ACTS = 'Stay Typedef Name Declare Finish Forget Open Close Shut'.split()
+ACTS = 'Stay Typedef Name Declare Finish Forget Open Close Shut Begin'.split()
 RULES_TREE = ("PrimaryExpression GenericSelection GenericAssocList GenericAssociation PostfixExpression ArgumentExpressionList UnaryExpression UnaryOperator CastExpression "
   "MultiplicativeExpression AdditiveExpression ShiftExpression RelationalExpression EqualityExpression AndExpression ExclusiveOrExpression InclusiveOrExpression "
   "LogicalAndExpression LogicalOrExpression ConditionalExpression AssignmentExpression AssignmentOperator Expression ConstantExpression "
@@ -24,7 +24,7 @@ RULES_TREE = ("PrimaryExpression GenericSelection GenericAssocList GenericAssoci
   "TranslationUnit ExternalDeclaration FunctionDefinition").split()
 # nonterminals that aren't the standard's: a rule of it in one context
 EXTRA = ("OtherSpecifier LaterTypeSpecifier LaterSpecifier ParameterDeclarator DirectParameterDeclarator AnyDeclarator DirectAnyDeclarator "
-  "UnlabelledExpression PlainExpression BlockStatement BlockExpressionStatement BlockDeclaration BlockSpecifiers").split()
+  "UnlabelledExpression PlainExpression BlockStatement BlockExpressionStatement BlockDeclaration BlockSpecifiers WholeDefinition FunctionBody").split()
 def T(c, act='Stay'): return ('T', c, act)
 def N(g): return ('N', g)
 ENTRY = ('I', 'BlockItem')      # an item of a block, or what is none
@@ -123,7 +123,7 @@ for g, direct in (('Declarator', 'DirectDeclarator'), ('ParameterDeclarator', 'D
     U(g, direct); R(g, 'Declarator', 0, N('Pointer'), N(direct))
     R(direct, 'DirectDeclarator', 0, T('Name', 'Name')); R(direct, 'DirectDeclarator', 1, OPEN if g == 'Declarator' else VALUEOPEN, N(g), RP)
     arrays(direct, 'DirectDeclarator', 2, direct, True)
-    R(direct, 'DirectDeclarator', 6, N(direct), PARAMS, N('ParameterTypeList'), ENDPARAMS); R(direct, 'DirectDeclarator', 7, N(direct), VALUEOPEN, opt(N('IdentifierList')), RP)
+    R(direct, 'DirectDeclarator', 6, N(direct), PARAMS, N('ParameterTypeList'), ENDPARAMS); R(direct, 'DirectDeclarator', 7, N(direct), T('LeftParen', 'Open'), opt(N('IdentifierList')), ENDPARAMS)
 R('Pointer', 'Pointer', 0, T('Star'), opt(QL)); R('Pointer', 'Pointer', 1, T('Star'), opt(QL), N('Pointer'))
 R('TypeQualifierList', 'TypeQualifierList', 0, N('TypeQualifier'), many(N('TypeQualifier')))
 p = 'ParameterTypeList'
@@ -173,3 +173,5 @@ SHUNS = dict(UnlabelledExpression='Label', PlainExpression='Marked', BlockSpecif
 S('External definitions', 'A.2.4')
 f = 'FunctionDefinition'
 R(f, f, 0, N('DeclarationSpecifiers'), N('Declarator'), T('Body', 'Finish'))
+R('WholeDefinition', f, 0, N('DeclarationSpecifiers'), N('Declarator'), N('FunctionBody'))
+R('FunctionBody', 'CompoundStatement', 0, T('LeftBrace', 'Begin'), opt(N('BlockItemList')), T('RightBrace', 'Close'))

@@ -27,7 +27,7 @@ def pairs(toks):
 class No(Exception): pass
 def node(r, c, *ps): return '(' + r + '.' + str(c) + ''.join(' ' + p for p in ps) + ')'
 class P:
-    def __init__(s, toks, typedefs): s.t = toks; s.i = 0; s.scopes = [{n: True for n in typedefs}]
+    def __init__(s, toks, typedefs): s.t = toks; s.i = 0; s.scopes = [{n: True for n in typedefs}]; s.lists = 0; s.first = None
     def typed(s, name):
         for f in reversed(s.scopes):
             if name in f: return f[name]
@@ -226,12 +226,14 @@ class P:
             o = s.eat(); i, n = s.declarator(parameter); d = node('DirectDeclarator', 1, o, i, s.eat(')'))
         else:
             n = s.ident(); d = node('DirectDeclarator', 0, n)
+            if s.lists == 0: s.first = None
         while s.at() in ('(', '['):
             if s.at() == '[': d = s.bracket('DirectDeclarator', 2, d, True)
             elif s.is_type(1):
                 o = s.eat(); d = node('DirectDeclarator', 6, d, o, s.parameters(), s.eat(')'))
             else:
                 o = s.eat(); ns = []
+                if s.lists == 0 and s.first is None: s.first = {}
                 while s.at() != ')':
                     if ns: s.eat(',')
                     ns.append(s.ident())
@@ -247,11 +249,13 @@ class P:
         e = [] if s.at() == ']' else [s.assign()]
         return node(rule, first, *pre, o, *q, *e, s.eat(']'))
     def parameters(s):
-        s.scopes.append({}); ps = [s.parameter()]
+        s.scopes.append({}); s.lists += 1; ps = [s.parameter()]
         while s.at() == ',' and s.at(1) != '...': s.eat(); ps.append(s.parameter())
         l = node('ParameterList', 0, *ps)
         if s.at() == ',': l = node('ParameterTypeList', 1, l, s.eat(), s.eat())
-        s.scopes.pop(); return l
+        s.lists -= 1; names = s.scopes.pop()
+        if s.lists == 0 and s.first is None: s.first = names
+        return l
     def parameter(s):
         q, typing = s.specifiers(True)
         if s.at() in (',', ')'): return q
@@ -286,6 +290,12 @@ class P:
             d, n = s.declarator(); s.declare(n, typing)
             ds.append(node('InitDeclarator', 1, d, s.eat(), s.init()) if s.at() == '=' else d)
         return node('Declaration', 0, q, *([node('InitDeclaratorList', 0, *ds)] if ds else []), s.eat())
+    def definition(s):
+        """A function definition: in its body the first list of parameters after its name is declared."""
+        q, _ = s.specifiers(True); d, n = s.declarator(); s.declare(n, False)
+        if s.at() != '{': raise No()
+        s.scopes.append(dict(s.first or {})); b = s.compound(); s.scopes.pop()
+        return node('FunctionDefinition', 0, q, d, b)
     def block(s, read):
         """What `read` reads, with its names gone after it (6.8.2 to 6.8.5)."""
         s.scopes.append({}); t = read(); s.scopes.pop(); return t
@@ -334,7 +344,7 @@ class P:
         o = s.eat('('); choice = 3 if s.is_declaration() else 2
         first = [s.declaration()] if choice == 3 else [*s.maybe(';'), s.eat(';')]
         return node('IterationStatement', choice, t, o, *first, *s.maybe(';'), s.eat(';'), *s.maybe(')'), s.eat(')'), s.block(s.statement))
-GOALS = {'expression': P.expr, 'declaration': P.declaration, 'type name': P.type_name, 'statement': P.statement, 'block item': P.block_item}
+GOALS = {'expression': P.expr, 'declaration': P.declaration, 'type name': P.type_name, 'statement': P.statement, 'block item': P.block_item, 'function definition': P.definition}
 def tree(goal, text, typedefs):
     p = P(lex(text), typedefs)
     try:
@@ -417,6 +427,7 @@ if __name__ == '__main__':
     import pycparser
     def outside(goal, text, names):
         before = ''.join('typedef int ' + n + '; ' for n in names)
+        if goal == 'function definition': goal = 'declaration'
         if goal in ('statement', 'block item'): text = 'void f0(void) { ' + ('for (;;) switch (x) ' if goal == 'statement' else '') + text + ' }'; goal = 'declaration'
         try: pycparser.CParser().parse(before + ('void f0(void) { x = sizeof(' + text + '); }' if goal != 'declaration' else text)); return True
         except Exception: return False

@@ -227,7 +227,7 @@ pub same_class_is : (x y : Class) → class_number x ≡ class_number y → x �
 same_class_is x y e = some_class (sym (numbered_class x) ∙ ap (λ (n : ℕ). slice_get all_classes n) e ∙ numbered_class y)
 
 abbrev pub all_goals : List Nonterminal
-all_goals = nt.PrimaryExpression ∷ nt.GenericSelection ∷ nt.GenericAssocList ∷ nt.GenericAssociation ∷ nt.PostfixExpression ∷ nt.ArgumentExpressionList ∷ nt.UnaryExpression ∷ nt.UnaryOperator ∷ nt.CastExpression ∷ nt.MultiplicativeExpression ∷ nt.AdditiveExpression ∷ nt.ShiftExpression ∷ nt.RelationalExpression ∷ nt.EqualityExpression ∷ nt.AndExpression ∷ nt.ExclusiveOrExpression ∷ nt.InclusiveOrExpression ∷ nt.LogicalAndExpression ∷ nt.LogicalOrExpression ∷ nt.ConditionalExpression ∷ nt.AssignmentExpression ∷ nt.AssignmentOperator ∷ nt.Expression ∷ nt.ConstantExpression ∷ nt.Declaration ∷ nt.DeclarationSpecifiers ∷ nt.InitDeclaratorList ∷ nt.InitDeclarator ∷ nt.StorageClassSpecifier ∷ nt.TypeSpecifier ∷ nt.StructOrUnionSpecifier ∷ nt.StructOrUnion ∷ nt.StructDeclarationList ∷ nt.StructDeclaration ∷ nt.SpecifierQualifierList ∷ nt.StructDeclaratorList ∷ nt.StructDeclarator ∷ nt.EnumSpecifier ∷ nt.EnumeratorList ∷ nt.Enumerator ∷ nt.AtomicTypeSpecifier ∷ nt.TypeQualifier ∷ nt.FunctionSpecifier ∷ nt.AlignmentSpecifier ∷ nt.Declarator ∷ nt.DirectDeclarator ∷ nt.Pointer ∷ nt.TypeQualifierList ∷ nt.ParameterTypeList ∷ nt.ParameterList ∷ nt.ParameterDeclaration ∷ nt.IdentifierList ∷ nt.TypeName ∷ nt.AbstractDeclarator ∷ nt.DirectAbstractDeclarator ∷ nt.TypedefName ∷ nt.Initializer ∷ nt.InitializerList ∷ nt.Designation ∷ nt.DesignatorList ∷ nt.Designator ∷ nt.StaticAssertDeclaration ∷ nt.Statement ∷ nt.LabeledStatement ∷ nt.CompoundStatement ∷ nt.BlockItemList ∷ nt.BlockItem ∷ nt.ExpressionStatement ∷ nt.SelectionStatement ∷ nt.IterationStatement ∷ nt.JumpStatement ∷ nt.FunctionDefinition ∷ nt.OtherSpecifier ∷ nt.LaterTypeSpecifier ∷ nt.LaterSpecifier ∷ nt.LaterQualifier ∷ nt.ParameterDeclarator ∷ nt.DirectParameterDeclarator ∷ nt.AnyDeclarator ∷ nt.DirectAnyDeclarator ∷ nt.UnlabelledExpression ∷ nt.PlainExpression ∷ nt.BlockStatement ∷ nt.BlockExpressionStatement ∷ nt.BlockDeclaration ∷ nt.BlockSpecifiers ∷ []
+all_goals = nt.PrimaryExpression ∷ nt.GenericSelection ∷ nt.GenericAssocList ∷ nt.GenericAssociation ∷ nt.PostfixExpression ∷ nt.ArgumentExpressionList ∷ nt.UnaryExpression ∷ nt.UnaryOperator ∷ nt.CastExpression ∷ nt.MultiplicativeExpression ∷ nt.AdditiveExpression ∷ nt.ShiftExpression ∷ nt.RelationalExpression ∷ nt.EqualityExpression ∷ nt.AndExpression ∷ nt.ExclusiveOrExpression ∷ nt.InclusiveOrExpression ∷ nt.LogicalAndExpression ∷ nt.LogicalOrExpression ∷ nt.ConditionalExpression ∷ nt.AssignmentExpression ∷ nt.AssignmentOperator ∷ nt.Expression ∷ nt.ConstantExpression ∷ nt.Declaration ∷ nt.DeclarationSpecifiers ∷ nt.InitDeclaratorList ∷ nt.InitDeclarator ∷ nt.StorageClassSpecifier ∷ nt.TypeSpecifier ∷ nt.StructOrUnionSpecifier ∷ nt.StructOrUnion ∷ nt.StructDeclarationList ∷ nt.StructDeclaration ∷ nt.SpecifierQualifierList ∷ nt.StructDeclaratorList ∷ nt.StructDeclarator ∷ nt.EnumSpecifier ∷ nt.EnumeratorList ∷ nt.Enumerator ∷ nt.AtomicTypeSpecifier ∷ nt.TypeQualifier ∷ nt.FunctionSpecifier ∷ nt.AlignmentSpecifier ∷ nt.Declarator ∷ nt.DirectDeclarator ∷ nt.Pointer ∷ nt.TypeQualifierList ∷ nt.ParameterTypeList ∷ nt.ParameterList ∷ nt.ParameterDeclaration ∷ nt.IdentifierList ∷ nt.TypeName ∷ nt.AbstractDeclarator ∷ nt.DirectAbstractDeclarator ∷ nt.TypedefName ∷ nt.Initializer ∷ nt.InitializerList ∷ nt.Designation ∷ nt.DesignatorList ∷ nt.Designator ∷ nt.StaticAssertDeclaration ∷ nt.Statement ∷ nt.LabeledStatement ∷ nt.CompoundStatement ∷ nt.BlockItemList ∷ nt.BlockItem ∷ nt.ExpressionStatement ∷ nt.SelectionStatement ∷ nt.IterationStatement ∷ nt.JumpStatement ∷ nt.FunctionDefinition ∷ nt.OtherSpecifier ∷ nt.LaterTypeSpecifier ∷ nt.LaterSpecifier ∷ nt.LaterQualifier ∷ nt.ParameterDeclarator ∷ nt.DirectParameterDeclarator ∷ nt.AnyDeclarator ∷ nt.DirectAnyDeclarator ∷ nt.UnlabelledExpression ∷ nt.PlainExpression ∷ nt.BlockStatement ∷ nt.BlockExpressionStatement ∷ nt.BlockDeclaration ∷ nt.BlockSpecifiers ∷ nt.WholeDefinition ∷ nt.FunctionBody ∷ []
 
 pub numbered_goal : (x : Nonterminal) → slice_get all_goals (number x) ≡ Some x
 numbered_goal nt.PrimaryExpression = refl
@@ -316,6 +316,8 @@ numbered_goal nt.BlockStatement = refl
 numbered_goal nt.BlockExpressionStatement = refl
 numbered_goal nt.BlockDeclaration = refl
 numbered_goal nt.BlockSpecifiers = refl
+numbered_goal nt.WholeDefinition = refl
+numbered_goal nt.FunctionBody = refl
 
 some_goal : {x y : Nonterminal} → Some x ≡ Some y → x ≡ y
 some_goal e = cc
@@ -324,7 +326,7 @@ pub same_goal_is : (x y : Nonterminal) → number x ≡ number y → x ≡ y
 same_goal_is x y e = some_goal (sym (numbered_goal x) ∙ ap (λ (n : ℕ). slice_get all_goals n) e ∙ numbered_goal y)
 
 abbrev pub all_acts : List Act
-all_acts = ac.Stay ∷ ac.Typedef ∷ ac.Name ∷ ac.Declare ∷ ac.Finish ∷ ac.Forget ∷ ac.Open ∷ ac.Close ∷ ac.Shut ∷ []
+all_acts = ac.Stay ∷ ac.Typedef ∷ ac.Name ∷ ac.Declare ∷ ac.Finish ∷ ac.Forget ∷ ac.Open ∷ ac.Close ∷ ac.Shut ∷ ac.Begin ∷ []
 
 abbrev pub act_number : Act → ℕ
 act_number ac.Stay = 0
@@ -336,6 +338,7 @@ act_number ac.Forget = 5
 act_number ac.Open = 6
 act_number ac.Close = 7
 act_number ac.Shut = 8
+act_number ac.Begin = 9
 
 pub numbered_act : (x : Act) → slice_get all_acts (act_number x) ≡ Some x
 numbered_act ac.Stay = refl
@@ -347,6 +350,7 @@ numbered_act ac.Forget = refl
 numbered_act ac.Open = refl
 numbered_act ac.Close = refl
 numbered_act ac.Shut = refl
+numbered_act ac.Begin = refl
 
 some_act : {x y : Act} → Some x ≡ Some y → x ≡ y
 some_act e = cc

@@ -60,7 +60,7 @@ macro_rules! rows {
     };
 }
 
-static EDGES: [Edge; 462] = rows! {
+static EDGES: [Edge; 469] = rows! {
     edge!(token!(Terminal::Name), 2), edge!(token!(is!(Constant)), 3), edge!(token!(is!(String)), 4),
     edge!(token!(is!(LeftParen)), 5), edge!(token!(is!(String)), 4), edge!(node!(Expression), 6),
     edge!(token!(is!(RightParen)), 7), edge!(token!(is!(Generic)), 9), edge!(token!(Terminal::Open), 10),
@@ -138,14 +138,14 @@ static EDGES: [Edge; 462] = rows! {
     edge!(token!(is!(RightParen)), 251), edge!(node!(Pointer), 253), edge!(node!(DirectDeclarator), 254),
     edge!(act!(Terminal::Name, Name), 256), edge!(token!(Terminal::Open), 257), edge!(node!(Declarator), 258),
     edge!(token!(is!(RightParen)), 259), edge!(node!(DirectDeclarator), 261), edge!(token!(is!(LeftBracket)), 262),
-    edge!(act!(Terminal::TypeOpen, Open), 275), edge!(token!(is!(LeftParen)), 278), edge!(node!(TypeQualifierList), 263),
+    edge!(act!(Terminal::TypeOpen, Open), 275), edge!(act!(is!(LeftParen), Open), 278), edge!(node!(TypeQualifierList), 263),
     edge!(node!(AssignmentExpression), 264), edge!(token!(is!(RightBracket)), 265), edge!(token!(is!(Static)), 271),
     edge!(token!(is!(StarBracket)), 269), edge!(node!(AssignmentExpression), 264), edge!(token!(is!(RightBracket)), 265),
     edge!(token!(is!(Static)), 266), edge!(token!(is!(StarBracket)), 269), edge!(token!(is!(RightBracket)), 265),
     edge!(node!(AssignmentExpression), 267), edge!(token!(is!(RightBracket)), 268), edge!(token!(is!(RightBracket)), 270),
     edge!(node!(TypeQualifierList), 272), edge!(node!(AssignmentExpression), 273), edge!(node!(AssignmentExpression), 273),
     edge!(token!(is!(RightBracket)), 274), edge!(node!(ParameterTypeList), 276), edge!(act!(is!(RightParen), Close), 277),
-    edge!(node!(IdentifierList), 279), edge!(token!(is!(RightParen)), 280), edge!(token!(is!(RightParen)), 280),
+    edge!(node!(IdentifierList), 279), edge!(act!(is!(RightParen), Close), 280), edge!(act!(is!(RightParen), Close), 280),
     edge!(node!(Pointer), 282), edge!(node!(DirectAnyDeclarator), 283), edge!(act!(Terminal::Name, Name), 287),
     edge!(token!(is!(LeftParen)), 288), edge!(token!(is!(LeftBracket)), 295), edge!(act!(Terminal::TypeOpen, Open), 308),
     edge!(node!(AnyDeclarator), 289), edge!(token!(is!(RightParen)), 294), edge!(token!(is!(RightParen)), 291),
@@ -156,14 +156,14 @@ static EDGES: [Edge; 462] = rows! {
     edge!(node!(TypeQualifierList), 303), edge!(node!(AssignmentExpression), 304), edge!(node!(AssignmentExpression), 304),
     edge!(token!(is!(RightBracket)), 305), edge!(token!(is!(RightBracket)), 307), edge!(node!(ParameterTypeList), 309),
     edge!(act!(is!(RightParen), Close), 310), edge!(node!(DirectParameterDeclarator), 312), edge!(token!(is!(LeftBracket)), 313),
-    edge!(act!(Terminal::TypeOpen, Open), 326), edge!(token!(is!(LeftParen)), 329), edge!(node!(TypeQualifierList), 314),
+    edge!(act!(Terminal::TypeOpen, Open), 326), edge!(act!(is!(LeftParen), Open), 329), edge!(node!(TypeQualifierList), 314),
     edge!(node!(AssignmentExpression), 315), edge!(token!(is!(RightBracket)), 316), edge!(token!(is!(Static)), 322),
     edge!(token!(is!(StarBracket)), 320), edge!(node!(AssignmentExpression), 315), edge!(token!(is!(RightBracket)), 316),
     edge!(token!(is!(Static)), 317), edge!(token!(is!(StarBracket)), 320), edge!(token!(is!(RightBracket)), 316),
     edge!(node!(AssignmentExpression), 318), edge!(token!(is!(RightBracket)), 319), edge!(token!(is!(RightBracket)), 321),
     edge!(node!(TypeQualifierList), 323), edge!(node!(AssignmentExpression), 324), edge!(node!(AssignmentExpression), 324),
     edge!(token!(is!(RightBracket)), 325), edge!(node!(ParameterTypeList), 327), edge!(act!(is!(RightParen), Close), 328),
-    edge!(node!(IdentifierList), 330), edge!(token!(is!(RightParen)), 331), edge!(token!(is!(RightParen)), 331),
+    edge!(node!(IdentifierList), 330), edge!(act!(is!(RightParen), Close), 331), edge!(act!(is!(RightParen), Close), 331),
     edge!(token!(is!(Star)), 333), edge!(node!(TypeQualifierList), 334), edge!(node!(Pointer), 335), edge!(node!(Pointer), 335),
     edge!(node!(TypeQualifier), 337), edge!(node!(TypeQualifier), 337), edge!(node!(ParameterList), 339),
     edge!(token!(is!(LastComma)), 340), edge!(token!(is!(Ellipsis)), 341), edge!(node!(ParameterDeclaration), 343),
@@ -214,7 +214,9 @@ static EDGES: [Edge; 462] = rows! {
     edge!(token!(is!(Semicolon)), 475), edge!(node!(PlainExpression), 477), edge!(token!(is!(Semicolon)), 478),
     edge!(token!(is!(Semicolon)), 478), edge!(node!(BlockSpecifiers), 480), edge!(node!(InitDeclaratorList), 481),
     edge!(act!(is!(Semicolon), Finish), 482), edge!(act!(is!(Semicolon), Finish), 482), edge!(node!(DeclarationSpecifiers), 484),
-    edge!(node!(Declarator), 485), edge!(act!(Terminal::Body, Finish), 486),
+    edge!(node!(Declarator), 485), edge!(act!(Terminal::Body, Finish), 486), edge!(node!(DeclarationSpecifiers), 488),
+    edge!(node!(Declarator), 489), edge!(node!(FunctionBody), 490), edge!(act!(is!(LeftBrace), Begin), 492),
+    edge!(node!(BlockItemList), 493), edge!(act!(is!(RightBrace), Close), 494), edge!(act!(is!(RightBrace), Close), 494),
 };
 
 /// The edges of all places, one place after the other.

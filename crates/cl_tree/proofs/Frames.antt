@@ -1,5 +1,5 @@
 -- The last item of a list, and what comes back with it.
-use Rattle.std.proofs.Common.{◌≡◌, ℕ, suc, ◌-◌, arith, List, [], ◌∷◌, ◌++◌, refl, ap, sym, ◌∙◌, take, Bool, true, false, ◌&&◌}
+use Rattle.std.proofs.Common.{◌≡◌, ℕ, suc, ◌-◌, arith, List, [], ◌∷◌, ◌++◌, refl, ap, sym, ◌∙◌, take, Bool, true, false, ◌&&◌, ◌||◌}
 use Rattle.std.specs.Prelude.{Some, nat_lt, length, slice_get, Result, Ok, Err, IfOk}
 use Rattle.cl_tree.specs.declared.scope.Frame.{Frame}
 use Rattle.cl_tree.specs.declared.scope.Change.{Change}
@@ -8,7 +8,7 @@ use Rattle.cl_tree.specs.declared.bracket.Brace.{Brace}
 use Rattle.cl_tree.specs.declared.bracket.Opened.{Opened}
 use Rattle.cl_tree.specs.declared.bracket.Side.{Side}
 use Rattle.cl_tree.specs.Ends.{last, front}
-use Rattle.cl_tree.specs.Scopes.{closed, closed_by, shut, shut_by}
+use Rattle.cl_tree.specs.Scopes.{closed, closed_by, keeps, aside_by, shut, shut_by}
 use Rattle.cl_tree.specs.Brackets.{Pairing, alone, paired, close_brace, close_other, opened_before, same_side}
 
 pub last_is : {X : Type 0} (xs : List X) (x : X) → last (xs ++ x ∷ []) ≡ Some x
@@ -29,18 +29,21 @@ last_get {X = X} (x ∷ y ∷ xs) =
     ap (slice_get (x ∷ y ∷ xs)) e ∙ last_get (y ∷ xs)
 
 -- what stands after the end of a list
-pub closed_is : (s : Scope) (fs : List Frame) (f : Frame) (cs : List Change) → s.frames ≡ fs ++ f ∷ [] → cs ≡ take f.kept s.changes
-    → record { typing = f.typing; pending = f.pending; changes = cs; frames = fs } ≡ closed s
-closed_is s fs f cs e k =
+pub closed_is : (s : Scope) (fs : List Frame) (f : Frame) (cs aside : List Change) (keep : Bool) → s.frames ≡ fs ++ f ∷ [] → cs ≡ take f.kept s.changes → keep ≡ keeps s fs
+    → aside ≡ aside_by keep s f.kept → record { typing = f.typing; pending = f.pending; changes = cs; frames = fs; listed = keep || s.listed; aside = aside } ≡ closed s
+closed_is s fs f cs aside keep e k is kept =
     let a : last s.frames ≡ Some f = ap last e ∙ last_is fs f in
     let b : front s.frames ≡ fs = ap front e ∙ front_is fs f in
-    (λ i. record { typing = f.typing; pending = f.pending; changes = k i; frames = sym b i }) ∙ ap (closed_by s) (sym a)
+    let all : aside ≡ aside_by (keeps s fs) s f.kept = kept ∙ ap (λ (v : Bool). aside_by v s f.kept) is in
+    (λ i. record { typing = f.typing; pending = f.pending; changes = k i; frames = fs; listed = is i || s.listed; aside = all i })
+    ∙ (λ i. record { typing = f.typing; pending = f.pending; changes = take f.kept s.changes; frames = sym b i; listed = keeps s (sym b i) || s.listed; aside = aside_by (keeps s (sym b i)) s f.kept })
+    ∙ ap (closed_by s) (sym a)
 
-pub shut_is : (s : Scope) (fs : List Frame) (f : Frame) → s.frames ≡ fs ++ f ∷ [] → record { typing = f.typing; pending = f.pending; changes = s.changes; frames = fs } ≡ shut s
+pub shut_is : (s : Scope) (fs : List Frame) (f : Frame) → s.frames ≡ fs ++ f ∷ [] → record { typing = f.typing; pending = f.pending; changes = s.changes; frames = fs; listed = s.listed; aside = s.aside } ≡ shut s
 shut_is s fs f e =
     let a : last s.frames ≡ Some f = ap last e ∙ last_is fs f in
     let b : front s.frames ≡ fs = ap front e ∙ front_is fs f in
-    (λ i. record { typing = f.typing; pending = f.pending; changes = s.changes; frames = sym b i }) ∙ ap (shut_by s) (sym a)
+    (λ i. record { typing = f.typing; pending = f.pending; changes = s.changes; frames = sym b i; listed = s.listed; aside = s.aside }) ∙ ap (shut_by s) (sym a)
 
 pub brace_is : (p : Pairing) (bs : List Brace) (b : Brace) (os : List Opened) (ps : List ℕ) → p.braces ≡ bs ++ b ∷ [] → os ≡ take b.before p.others → ps ≡ paired p.partners b.at
     → record { braces = bs; others = os; partners = ps } ≡ close_brace p (last p.braces)

@@ -257,7 +257,7 @@ productions =
     production nt.DirectDeclarator ru.DirectDeclarator 4 (one (n nt.DirectDeclarator) ∷ one (t (is cl.LeftBracket)) ∷ one (n nt.TypeQualifierList) ∷ one (t (is cl.Static)) ∷ one (n nt.AssignmentExpression) ∷ one (t (is cl.RightBracket)) ∷ []) ∷
     production nt.DirectDeclarator ru.DirectDeclarator 5 (one (n nt.DirectDeclarator) ∷ one (t (is cl.LeftBracket)) ∷ opt (n nt.TypeQualifierList) ∷ one (t (is cl.StarBracket)) ∷ one (t (is cl.RightBracket)) ∷ []) ∷
     production nt.DirectDeclarator ru.DirectDeclarator 6 (one (n nt.DirectDeclarator) ∷ one (act te.TypeOpen ac.Open) ∷ one (n nt.ParameterTypeList) ∷ one (act (is cl.RightParen) ac.Close) ∷ []) ∷
-    production nt.DirectDeclarator ru.DirectDeclarator 7 (one (n nt.DirectDeclarator) ∷ one (t (is cl.LeftParen)) ∷ opt (n nt.IdentifierList) ∷ one (t (is cl.RightParen)) ∷ []) ∷
+    production nt.DirectDeclarator ru.DirectDeclarator 7 (one (n nt.DirectDeclarator) ∷ one (act (is cl.LeftParen) ac.Open) ∷ opt (n nt.IdentifierList) ∷ one (act (is cl.RightParen) ac.Close) ∷ []) ∷
     -- A declarator of a parameter: after its `(` a type begins parameters (6.7.6)
     production nt.ParameterDeclarator ru.Declarator 0 (one (n nt.Pointer) ∷ one (n nt.DirectParameterDeclarator) ∷ []) ∷
     -- A direct-declarator of a parameter (6.7.6)
@@ -268,7 +268,7 @@ productions =
     production nt.DirectParameterDeclarator ru.DirectDeclarator 4 (one (n nt.DirectParameterDeclarator) ∷ one (t (is cl.LeftBracket)) ∷ one (n nt.TypeQualifierList) ∷ one (t (is cl.Static)) ∷ one (n nt.AssignmentExpression) ∷ one (t (is cl.RightBracket)) ∷ []) ∷
     production nt.DirectParameterDeclarator ru.DirectDeclarator 5 (one (n nt.DirectParameterDeclarator) ∷ one (t (is cl.LeftBracket)) ∷ opt (n nt.TypeQualifierList) ∷ one (t (is cl.StarBracket)) ∷ one (t (is cl.RightBracket)) ∷ []) ∷
     production nt.DirectParameterDeclarator ru.DirectDeclarator 6 (one (n nt.DirectParameterDeclarator) ∷ one (act te.TypeOpen ac.Open) ∷ one (n nt.ParameterTypeList) ∷ one (act (is cl.RightParen) ac.Close) ∷ []) ∷
-    production nt.DirectParameterDeclarator ru.DirectDeclarator 7 (one (n nt.DirectParameterDeclarator) ∷ one (t (is cl.LeftParen)) ∷ opt (n nt.IdentifierList) ∷ one (t (is cl.RightParen)) ∷ []) ∷
+    production nt.DirectParameterDeclarator ru.DirectDeclarator 7 (one (n nt.DirectParameterDeclarator) ∷ one (act (is cl.LeftParen) ac.Open) ∷ opt (n nt.IdentifierList) ∷ one (act (is cl.RightParen) ac.Close) ∷ []) ∷
     -- pointer (6.7.6)
     production nt.Pointer ru.Pointer 0 (one (t (is cl.Star)) ∷ opt (n nt.TypeQualifierList) ∷ []) ∷
     production nt.Pointer ru.Pointer 1 (one (t (is cl.Star)) ∷ opt (n nt.TypeQualifierList) ∷ one (n nt.Pointer) ∷ []) ∷
@@ -347,6 +347,10 @@ productions =
     production nt.BlockDeclaration ru.Declaration 0 (one (n nt.BlockSpecifiers) ∷ opt (n nt.InitDeclaratorList) ∷ one (act (is cl.Semicolon) ac.Finish) ∷ []) ∷
     -- function-definition (6.9.1)
     production nt.FunctionDefinition ru.FunctionDefinition 0 (one (n nt.DeclarationSpecifiers) ∷ one (n nt.Declarator) ∷ one (act te.Body ac.Finish) ∷ []) ∷
+    -- A function-definition whose body is read too (6.9.1)
+    production nt.WholeDefinition ru.FunctionDefinition 0 (one (n nt.DeclarationSpecifiers) ∷ one (n nt.Declarator) ∷ one (n nt.FunctionBody) ∷ []) ∷
+    -- The compound-statement of a function-definition: its parameters are declared in it (6.9.1)
+    production nt.FunctionBody ru.CompoundStatement 0 (one (act (is cl.LeftBrace) ac.Begin) ∷ opt (n nt.BlockItemList) ∷ one (act (is cl.RightBrace) ac.Close) ∷ []) ∷
     []
 
 -- the productions whose right side is one nonterminal: they make no node

@@ -46,6 +46,8 @@ pub enum Act {
     Close,
     /// A list of members or enumerators ends; its names stay.
     Shut,
+    /// The body of a function begins: its name is declared, and in the body what its list of parameters declared.
+    Begin,
 }
 
 /// A symbol of a right side.

@@ -50,7 +50,7 @@ macro_rules! rows {
     };
 }
 
-static PARTS: [Part; 496] = rows! {
+static PARTS: [Part; 502] = rows! {
     Part::One(token!(Terminal::Name)),
     Part::One(token!(is!(Constant))),
     Part::One(token!(is!(String))), Part::Many(token!(is!(String))),
@@ -190,8 +190,8 @@ static PARTS: [Part; 496] = rows! {
     Part::One(token!(is!(StarBracket))), Part::One(token!(is!(RightBracket))),
     Part::One(node!(DirectDeclarator)), Part::One(act!(Terminal::TypeOpen, Open)), Part::One(node!(ParameterTypeList)),
     Part::One(act!(is!(RightParen), Close)),
-    Part::One(node!(DirectDeclarator)), Part::One(token!(is!(LeftParen))), Part::Optional(node!(IdentifierList)),
-    Part::One(token!(is!(RightParen))),
+    Part::One(node!(DirectDeclarator)), Part::One(act!(is!(LeftParen), Open)), Part::Optional(node!(IdentifierList)),
+    Part::One(act!(is!(RightParen), Close)),
     Part::One(node!(Pointer)), Part::One(node!(DirectParameterDeclarator)),
     Part::One(act!(Terminal::Name, Name)),
     Part::One(token!(is!(LeftParen))), Part::One(node!(ParameterDeclarator)), Part::One(token!(is!(RightParen))),
@@ -205,8 +205,8 @@ static PARTS: [Part; 496] = rows! {
     Part::One(token!(is!(StarBracket))), Part::One(token!(is!(RightBracket))),
     Part::One(node!(DirectParameterDeclarator)), Part::One(act!(Terminal::TypeOpen, Open)), Part::One(node!(ParameterTypeList)),
     Part::One(act!(is!(RightParen), Close)),
-    Part::One(node!(DirectParameterDeclarator)), Part::One(token!(is!(LeftParen))), Part::Optional(node!(IdentifierList)),
-    Part::One(token!(is!(RightParen))),
+    Part::One(node!(DirectParameterDeclarator)), Part::One(act!(is!(LeftParen), Open)), Part::Optional(node!(IdentifierList)),
+    Part::One(act!(is!(RightParen), Close)),
     Part::One(token!(is!(Star))), Part::Optional(node!(TypeQualifierList)),
     Part::One(token!(is!(Star))), Part::Optional(node!(TypeQualifierList)), Part::One(node!(Pointer)),
     Part::One(node!(TypeQualifier)), Part::Many(node!(TypeQualifier)),
@@ -282,6 +282,8 @@ static PARTS: [Part; 496] = rows! {
     Part::Optional(node!(PlainExpression)), Part::One(token!(is!(Semicolon))),
     Part::One(node!(BlockSpecifiers)), Part::Optional(node!(InitDeclaratorList)), Part::One(act!(is!(Semicolon), Finish)),
     Part::One(node!(DeclarationSpecifiers)), Part::One(node!(Declarator)), Part::One(act!(Terminal::Body, Finish)),
+    Part::One(node!(DeclarationSpecifiers)), Part::One(node!(Declarator)), Part::One(node!(FunctionBody)),
+    Part::One(act!(is!(LeftBrace), Begin)), Part::Optional(node!(BlockItemList)), Part::One(act!(is!(RightBrace), Close)),
 };
 
 static AGAIN: [Again; 9] = [

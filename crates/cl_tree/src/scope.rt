@@ -1,6 +1,6 @@
 //! The names that are typedef names at a place of a text, and the classes of tokens that follow from them.
 
-ghost use Rattle.std.specs.Prelude.{◌≡◌, ◌∷◌, [], ◌++◌, ◌<◌, ◌^◌, IfOk, length, slice_get, take, List, ℕ, cond, nat_eq};
+ghost use Rattle.std.specs.Prelude.{◌≡◌, ◌∷◌, [], ◌++◌, ◌<◌, ◌^◌, IfOk, length, slice_get, take, drop, List, ℕ, cond, nat_eq, not, ◌&&◌, ◌||◌};
 ghost use Rattle.cl_tree.specs.Scopes as s;
 ghost use Rattle.cl_tree.specs.Sets.{has, IsAdded, IsTaken};
 ghost use Rattle.std.specs.Cmp.Lexicographic.{pointwise};
@@ -30,14 +30,16 @@ pub struct Frame {
 }
 
 /// What has been declared at a place: whether the specifiers that are being read have `typedef`, the number of the token that
-/// is the name being declared, the declarations that change what a name is, in order, and the lists that are being read,
-/// innermost last.
+/// is the name being declared, the declarations that change what a name is, in order, the lists that are being read,
+/// innermost last, whether the name that stands in none of them has had a list of parameters, and what that declared.
 #[derive(Drop)]
 pub struct Scope {
     pub typing: bool,
     pub pending: Option<u32>,
     pub changes: List<Change>,
     pub frames: List<Frame>,
+    pub listed: bool,
+    pub aside: List<Change>,
 }
 
 impl Scope {
@@ -50,6 +52,8 @@ impl Scope {
             pending: None,
             changes: List::new(alloc),
             frames: List::new(alloc),
+            listed: false,
+            aside: List::new(alloc),
         }
     }
 
@@ -61,11 +65,15 @@ impl Scope {
         changes.extend(self.changes.as_slice())?;
         let mut frames = List::new(alloc);
         frames.extend(self.frames.as_slice())?;
+        let mut aside = List::new(alloc);
+        aside.extend(self.aside.as_slice())?;
         Ok(Scope {
             typing: self.typing,
             pending: self.pending,
             changes,
             frames,
+            listed: self.listed,
+            aside,
         })
     }
 }
@@ -204,32 +212,81 @@ fn opened(scope: Scope) -> Mem<Scope>
         pending: None,
         changes: scope.changes,
         frames,
+        listed: scope.listed,
+        aside: scope.aside,
     })
 }
 
-/// A list of parameters ends, and its names with it.
-fn closed(scope: Scope) -> Scope
-    ensures { result ≡ s.closed scope }
+/// What is kept aside: the declarations from one on, or what was so before.
+fn kept_aside(keep: bool, changes: &[Change], from: u32, before: List<Change>) -> Mem<List<Change>>
+    ensures { IfOk result (λ after. after ≡ cond keep (drop from changes.now) before) }
+{
+    if !keep {
+        return Ok(before);
+    }
+    let mut after = before;
+    after.truncate(0);
+    let start = from as usize;
+    if start < changes.len() {
+        let (_, rest) = changes.split_at(start);
+        after.extend(rest)?;
+    }
+    Ok(after)
+}
+
+/// A list of parameters or a block ends, and its names with it.
+fn closed(scope: Scope) -> Mem<Scope>
+    ensures { IfOk result (λ after. after ≡ s.closed scope) }
 {
     let mut frames = scope.frames;
     let mut changes = scope.changes;
+    let listed = scope.listed;
     match frames.pop() {
         Some(frame) => {
+            let keep = keeps(frames.as_slice(), listed);
+            let aside = kept_aside(keep, changes.as_slice(), frame.kept, scope.aside)?;
+            let had = had_list(keep, listed);
             changes.truncate(frame.kept as usize);
-            Scope {
+            Ok(Scope {
                 typing: frame.typing,
                 pending: frame.pending,
                 changes,
                 frames,
-            }
+                listed: had,
+                aside,
+            })
         }
-        None => Scope {
+        None => Ok(Scope {
             typing: scope.typing,
             pending: scope.pending,
             changes,
             frames,
-        },
+            listed,
+            aside: scope.aside,
+        }),
     }
+}
+
+/// Whether no list is being read.
+fn is_outermost(frames: &[Frame]) -> bool
+    ensures { result ≡ s.is_outermost frames.now }
+{
+    frames.is_empty()
+}
+
+/// Whether a name has had a list of parameters: now or before.
+fn had_list(now: bool, before: bool) -> bool
+    ensures { result ≡ (now || before) }
+{
+    now || before
+}
+
+/// Whether what a list declared is kept aside, which stands in these.
+fn keeps(frames: &[Frame], listed: bool) -> bool
+    ensures { result ≡ (s.is_outermost frames.now && not listed) }
+{
+    let outermost = is_outermost(frames);
+    outermost && !listed
 }
 
 /// A list of members or enumerators ends, and its names stay.
@@ -243,12 +300,16 @@ fn shut(scope: Scope) -> Scope
             pending: frame.pending,
             changes: scope.changes,
             frames,
+            listed: scope.listed,
+            aside: scope.aside,
         },
         None => Scope {
             typing: scope.typing,
             pending: scope.pending,
             changes: scope.changes,
             frames,
+            listed: scope.listed,
+            aside: scope.aside,
         },
     }
 }
@@ -263,6 +324,49 @@ fn declaring(tokens: &[Lexeme], scope: Scope, typing: bool) -> Mem<Scope>
         pending: None,
         changes,
         frames: scope.frames,
+        listed: scope.listed,
+        aside: scope.aside,
+    })
+}
+
+/// The token at a number is the name that is being declared.
+fn named(scope: Scope, at: u32) -> Scope
+    ensures { result ≡ s.named scope at }
+{
+    let outermost = is_outermost(scope.frames.as_slice());
+    let mut aside = scope.aside;
+    if outermost {
+        aside.truncate(0);
+    }
+    Scope {
+        typing: scope.typing,
+        pending: Some(at),
+        changes: scope.changes,
+        frames: scope.frames,
+        listed: if outermost { false } else { scope.listed },
+        aside,
+    }
+}
+
+/// The body of a function begins.
+fn begun(tokens: &[Lexeme], scope: Scope) -> Mem<Scope>
+    ensures { IfOk result (λ after. after ≡ s.begun tokens.now scope) }
+{
+    let mut changes = declared(tokens, scope.changes, scope.pending, false)?;
+    let mut frames = scope.frames;
+    frames.push(Frame {
+        typing: false,
+        pending: None,
+        kept: changes.len() as u32,
+    })?;
+    changes.extend(scope.aside.as_slice())?;
+    Ok(Scope {
+        typing: false,
+        pending: None,
+        changes,
+        frames,
+        listed: true,
+        aside: scope.aside,
     })
 }
 
@@ -278,13 +382,10 @@ pub fn pass(tokens: &[Lexeme], scope: Scope, act: Act, at: u32) -> Mem<Scope>
             pending: scope.pending,
             changes: scope.changes,
             frames: scope.frames,
+            listed: scope.listed,
+            aside: scope.aside,
         }),
-        Act::Name => Ok(Scope {
-            typing: scope.typing,
-            pending: Some(at),
-            changes: scope.changes,
-            frames: scope.frames,
-        }),
+        Act::Name => Ok(named(scope, at)),
         Act::Declare => {
             let typing = scope.typing;
             declaring(tokens, scope, typing)
@@ -295,9 +396,16 @@ pub fn pass(tokens: &[Lexeme], scope: Scope, act: Act, at: u32) -> Mem<Scope>
             pending: None,
             changes: scope.changes,
             frames: scope.frames,
+            listed: scope.listed,
+            aside: scope.aside,
         }),
         Act::Open => opened(scope),
-        Act::Close => Ok(closed(scope)),
+        Act::Close => {
+            let typing = scope.typing;
+            let after = declaring(tokens, scope, typing)?;
+            closed(after)
+        }
+        Act::Begin => begun(tokens, scope),
         Act::Shut => {
             let typing = scope.typing;
             let after = declaring(tokens, scope, typing)?;

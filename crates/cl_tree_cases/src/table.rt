@@ -20,6 +20,8 @@ enum Section {
     Statement,
     /// Items of a block (6.8.2).
     BlockItem,
+    /// Function definitions (6.9.1), with their bodies.
+    Definition,
     /// Files, with whether they end whole.
     EndsWhole,
     /// Files, with their items.
@@ -67,6 +69,7 @@ impl Table {
             Section::TypeName => trees::type_name(alloc, text.as_bytes(), &self.typedefs)?,
             Section::Statement => trees::statement(alloc, text.as_bytes(), &self.typedefs)?,
             Section::BlockItem => trees::block_item(alloc, text.as_bytes(), &self.typedefs)?,
+            Section::Definition => trees::definition(alloc, text.as_bytes(), &self.typedefs)?,
             Section::EndsWhole => files::whole(alloc, text.as_bytes())?,
             Section::Items => files::items_of(alloc, text.as_bytes())?,
             Section::Outline => files::outline_of(alloc, text.as_bytes())?,
@@ -91,6 +94,7 @@ fn section_of(name: &str) -> Section {
         "[type name]" => Section::TypeName,
         "[statement]" => Section::Statement,
         "[block item]" => Section::BlockItem,
+        "[function definition]" => Section::Definition,
         "[ends whole]" => Section::EndsWhole,
         "[items]" => Section::Items,
         "[outline]" => Section::Outline,

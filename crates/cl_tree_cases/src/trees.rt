@@ -42,6 +42,14 @@ pub(crate) fn block_item(alloc: Global, text: &[u8], typedefs: &NameSet) -> Mem<
     written(alloc, tokens.as_slice(), tree)
 }
 
+/// That of a function definition with its body.
+pub(crate) fn definition(alloc: Global, text: &[u8], typedefs: &NameSet) -> Mem<String> {
+    let tokens = tokens_of(alloc, text)?;
+    let goal = Nonterminal::WholeDefinition;
+    let tree = parse(alloc, tokens.as_slice(), typedefs, goal)?;
+    written(alloc, tokens.as_slice(), tree)
+}
+
 /// The tokens of a text, where no line is a directive.
 pub(crate) fn tokens_of(alloc: Global, text: &[u8]) -> Mem<List<PpToken>> {
     let lexed = lex(alloc, text)?;

@@ -138,6 +138,7 @@ fn standard(goal: Nonterminal) -> Nonterminal {
         Nonterminal::BlockDeclaration => Nonterminal::Declaration,
         Nonterminal::BlockStatement => Nonterminal::Statement,
         Nonterminal::BlockExpressionStatement => Nonterminal::ExpressionStatement,
+        Nonterminal::FunctionBody => Nonterminal::CompoundStatement,
         other => other,
     }
 }

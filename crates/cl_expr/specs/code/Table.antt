@@ -606,7 +606,7 @@ places =
     -- 260: DirectDeclarator -> . DirectDeclarator LeftBracket TypeQualifierList? AssignmentExpression? RightBracket; DirectDeclarator -> . DirectDeclarator LeftBracket Static TypeQualifierList? AssignmentExpression RightBracket ..
     row (e (Node nt.DirectDeclarator) 261 ∷ []) None None false (head nt.DirectDeclarator 261) None false 260 true [] (i 112 0 ∷ i 113 0 ∷ i 114 0 ∷ i 115 0 ∷ i 116 0 ∷ i 117 0 ∷ []) ∷
     -- 261: DirectDeclarator -> DirectDeclarator . LeftBracket TypeQualifierList? AssignmentExpression? RightBracket; DirectDeclarator -> DirectDeclarator . LeftBracket Static TypeQualifierList? AssignmentExpression RightBracket ..
-    row (e (Token (te.Is cl.LeftBracket) ac.Stay) 262 ∷ e (Token te.TypeOpen ac.Open) 275 ∷ e (Token (te.Is cl.LeftParen) ac.Stay) 278 ∷ []) None None false None None false 260 true [] (i 112 1 ∷ i 113 1 ∷ i 114 1 ∷ i 115 1 ∷ i 116 1 ∷ i 117 1 ∷ []) ∷
+    row (e (Token (te.Is cl.LeftBracket) ac.Stay) 262 ∷ e (Token te.TypeOpen ac.Open) 275 ∷ e (Token (te.Is cl.LeftParen) ac.Open) 278 ∷ []) None None false None None false 260 true [] (i 112 1 ∷ i 113 1 ∷ i 114 1 ∷ i 115 1 ∷ i 116 1 ∷ i 117 1 ∷ []) ∷
     -- 262: DirectDeclarator -> DirectDeclarator LeftBracket . TypeQualifierList? AssignmentExpression? RightBracket; DirectDeclarator -> DirectDeclarator LeftBracket . Static TypeQualifierList? AssignmentExpression RightBracket ..
     row (e (Node nt.TypeQualifierList) 263 ∷ e (Node nt.AssignmentExpression) 264 ∷ e (Token (te.Is cl.RightBracket) ac.Stay) 265 ∷ e (Token (te.Is cl.Static) ac.Stay) 271 ∷ e (Token (te.Is cl.StarBracket) ac.Stay) 269 ∷ []) None None false None None false 260 true [] (i 112 2 ∷ i 113 2 ∷ i 114 2 ∷ i 115 2 ∷ []) ∷
     -- 263: DirectDeclarator -> DirectDeclarator LeftBracket TypeQualifierList? . AssignmentExpression? RightBracket; DirectDeclarator -> DirectDeclarator LeftBracket TypeQualifierList . Static AssignmentExpression RightBracket ..
@@ -640,9 +640,9 @@ places =
     -- 277: DirectDeclarator -> DirectDeclarator TypeOpen ParameterTypeList RightParen .
     row [] (label ru.DirectDeclarator 6) None false None None true 260 true [] (i 116 4 ∷ []) ∷
     -- 278: DirectDeclarator -> DirectDeclarator LeftParen . IdentifierList? RightParen
-    row (e (Node nt.IdentifierList) 279 ∷ e (Token (te.Is cl.RightParen) ac.Stay) 280 ∷ []) None None false None None false 260 true [] (i 117 2 ∷ []) ∷
+    row (e (Node nt.IdentifierList) 279 ∷ e (Token (te.Is cl.RightParen) ac.Close) 280 ∷ []) None None false None None false 260 true [] (i 117 2 ∷ []) ∷
     -- 279: DirectDeclarator -> DirectDeclarator LeftParen IdentifierList? . RightParen
-    row (e (Token (te.Is cl.RightParen) ac.Stay) 280 ∷ []) None None false None None false 260 true [] (i 117 3 ∷ []) ∷
+    row (e (Token (te.Is cl.RightParen) ac.Close) 280 ∷ []) None None false None None false 260 true [] (i 117 3 ∷ []) ∷
     -- 280: DirectDeclarator -> DirectDeclarator LeftParen IdentifierList? RightParen .
     row [] (label ru.DirectDeclarator 7) None false None None true 260 true [] (i 117 4 ∷ []) ∷
     -- 281: ParameterDeclarator -> . Pointer DirectParameterDeclarator; AbstractDeclarator -> . Pointer DirectAbstractDeclarator
@@ -708,7 +708,7 @@ places =
     -- 311: DirectParameterDeclarator -> . DirectParameterDeclarator LeftBracket TypeQualifierList? AssignmentExpression? RightBracket; DirectParameterDeclarator -> . DirectParameterDeclarator LeftBracket Static TypeQualifierList? AssignmentExpression RightBracket ..
     row (e (Node nt.DirectParameterDeclarator) 312 ∷ []) None None false (head nt.DirectParameterDeclarator 312) None false 311 true [] (i 121 0 ∷ i 122 0 ∷ i 123 0 ∷ i 124 0 ∷ i 125 0 ∷ i 126 0 ∷ []) ∷
     -- 312: DirectParameterDeclarator -> DirectParameterDeclarator . LeftBracket TypeQualifierList? AssignmentExpression? RightBracket; DirectParameterDeclarator -> DirectParameterDeclarator . LeftBracket Static TypeQualifierList? AssignmentExpression RightBracket ..
-    row (e (Token (te.Is cl.LeftBracket) ac.Stay) 313 ∷ e (Token te.TypeOpen ac.Open) 326 ∷ e (Token (te.Is cl.LeftParen) ac.Stay) 329 ∷ []) None None false None None false 311 true [] (i 121 1 ∷ i 122 1 ∷ i 123 1 ∷ i 124 1 ∷ i 125 1 ∷ i 126 1 ∷ []) ∷
+    row (e (Token (te.Is cl.LeftBracket) ac.Stay) 313 ∷ e (Token te.TypeOpen ac.Open) 326 ∷ e (Token (te.Is cl.LeftParen) ac.Open) 329 ∷ []) None None false None None false 311 true [] (i 121 1 ∷ i 122 1 ∷ i 123 1 ∷ i 124 1 ∷ i 125 1 ∷ i 126 1 ∷ []) ∷
     -- 313: DirectParameterDeclarator -> DirectParameterDeclarator LeftBracket . TypeQualifierList? AssignmentExpression? RightBracket; DirectParameterDeclarator -> DirectParameterDeclarator LeftBracket . Static TypeQualifierList? AssignmentExpression RightBracket ..
     row (e (Node nt.TypeQualifierList) 314 ∷ e (Node nt.AssignmentExpression) 315 ∷ e (Token (te.Is cl.RightBracket) ac.Stay) 316 ∷ e (Token (te.Is cl.Static) ac.Stay) 322 ∷ e (Token (te.Is cl.StarBracket) ac.Stay) 320 ∷ []) None None false None None false 311 true [] (i 121 2 ∷ i 122 2 ∷ i 123 2 ∷ i 124 2 ∷ []) ∷
     -- 314: DirectParameterDeclarator -> DirectParameterDeclarator LeftBracket TypeQualifierList? . AssignmentExpression? RightBracket; DirectParameterDeclarator -> DirectParameterDeclarator LeftBracket TypeQualifierList . Static AssignmentExpression RightBracket ..
@@ -742,9 +742,9 @@ places =
     -- 328: DirectParameterDeclarator -> DirectParameterDeclarator TypeOpen ParameterTypeList RightParen .
     row [] (label ru.DirectDeclarator 6) None false None None true 311 true [] (i 125 4 ∷ []) ∷
     -- 329: DirectParameterDeclarator -> DirectParameterDeclarator LeftParen . IdentifierList? RightParen
-    row (e (Node nt.IdentifierList) 330 ∷ e (Token (te.Is cl.RightParen) ac.Stay) 331 ∷ []) None None false None None false 311 true [] (i 126 2 ∷ []) ∷
+    row (e (Node nt.IdentifierList) 330 ∷ e (Token (te.Is cl.RightParen) ac.Close) 331 ∷ []) None None false None None false 311 true [] (i 126 2 ∷ []) ∷
     -- 330: DirectParameterDeclarator -> DirectParameterDeclarator LeftParen IdentifierList? . RightParen
-    row (e (Token (te.Is cl.RightParen) ac.Stay) 331 ∷ []) None None false None None false 311 true [] (i 126 3 ∷ []) ∷
+    row (e (Token (te.Is cl.RightParen) ac.Close) 331 ∷ []) None None false None None false 311 true [] (i 126 3 ∷ []) ∷
     -- 331: DirectParameterDeclarator -> DirectParameterDeclarator LeftParen IdentifierList? RightParen .
     row [] (label ru.DirectDeclarator 7) None false None None true 311 true [] (i 126 4 ∷ []) ∷
     -- 332: Pointer -> . Star TypeQualifierList?; Pointer -> . Star TypeQualifierList? Pointer
@@ -1057,6 +1057,22 @@ places =
     row (e (Token te.Body ac.Finish) 486 ∷ []) None None false None None false 483 true [] (i 178 2 ∷ []) ∷
     -- 486: FunctionDefinition -> DeclarationSpecifiers Declarator Body .
     row [] (label ru.FunctionDefinition 0) None false None None false 483 true [] (i 178 3 ∷ []) ∷
+    -- 487: WholeDefinition -> . DeclarationSpecifiers Declarator FunctionBody
+    row (e (Node nt.DeclarationSpecifiers) 488 ∷ []) None None false None None false 487 false [] (i 179 0 ∷ []) ∷
+    -- 488: WholeDefinition -> DeclarationSpecifiers . Declarator FunctionBody
+    row (e (Node nt.Declarator) 489 ∷ []) None None false None None false 487 false [] (i 179 1 ∷ []) ∷
+    -- 489: WholeDefinition -> DeclarationSpecifiers Declarator . FunctionBody
+    row (e (Node nt.FunctionBody) 490 ∷ []) None None false None None false 487 false [] (i 179 2 ∷ []) ∷
+    -- 490: WholeDefinition -> DeclarationSpecifiers Declarator FunctionBody .
+    row [] (label ru.FunctionDefinition 0) None false None None false 487 false [] (i 179 3 ∷ []) ∷
+    -- 491: FunctionBody -> . LeftBrace BlockItemList? RightBrace
+    row (e (Token (te.Is cl.LeftBrace) ac.Begin) 492 ∷ []) None None false None None false 491 false [] (i 180 0 ∷ []) ∷
+    -- 492: FunctionBody -> LeftBrace . BlockItemList? RightBrace
+    row (e (Node nt.BlockItemList) 493 ∷ e (Token (te.Is cl.RightBrace) ac.Close) 494 ∷ []) None None false None None false 491 false [] (i 180 1 ∷ []) ∷
+    -- 493: FunctionBody -> LeftBrace BlockItemList? . RightBrace
+    row (e (Token (te.Is cl.RightBrace) ac.Close) 494 ∷ []) None None false None None false 491 false [] (i 180 2 ∷ []) ∷
+    -- 494: FunctionBody -> LeftBrace BlockItemList? RightBrace .
+    row [] (label ru.CompoundStatement 0) None false None None false 491 false [] (i 180 3 ∷ []) ∷
     []
 
 unfoldable pub goals : List Goal
@@ -1233,6 +1249,10 @@ goals =
     record { kinds = (482 ∷ 403 ∷ []); openers = (479 ∷ 396 ∷ []); suffixes = []; firsts = (cl.TypedefName ∷ cl.StaticAssert ∷ cl.Typedef ∷ cl.Extern ∷ cl.Static ∷ cl.ThreadLocal ∷ cl.Auto ∷ cl.Register ∷ cl.Void ∷ cl.Char ∷ cl.Short ∷ cl.Int ∷ cl.Long ∷ cl.Float ∷ cl.Double ∷ cl.Signed ∷ cl.Unsigned ∷ cl.Bool ∷ cl.Struct ∷ cl.Union ∷ cl.Enum ∷ cl.Const ∷ cl.Restrict ∷ cl.Volatile ∷ cl.Atomic ∷ cl.AtomicParen ∷ cl.Inline ∷ cl.Noreturn ∷ cl.Alignas ∷ []); goes = []; shuns = None; flat = true } ∷
     -- BlockSpecifiers
     record { kinds = (164 ∷ 165 ∷ []); openers = (163 ∷ []); suffixes = []; firsts = (cl.TypedefName ∷ cl.Typedef ∷ cl.Extern ∷ cl.Static ∷ cl.ThreadLocal ∷ cl.Auto ∷ cl.Register ∷ cl.Void ∷ cl.Char ∷ cl.Short ∷ cl.Int ∷ cl.Long ∷ cl.Float ∷ cl.Double ∷ cl.Signed ∷ cl.Unsigned ∷ cl.Bool ∷ cl.Struct ∷ cl.Union ∷ cl.Enum ∷ cl.Const ∷ cl.Restrict ∷ cl.Volatile ∷ cl.Atomic ∷ cl.AtomicParen ∷ cl.Inline ∷ cl.Noreturn ∷ cl.Alignas ∷ []); goes = (cl.LeftBrace ∷ cl.Typedef ∷ cl.Extern ∷ cl.Static ∷ cl.ThreadLocal ∷ cl.Auto ∷ cl.Register ∷ cl.Void ∷ cl.Char ∷ cl.Short ∷ cl.Int ∷ cl.Long ∷ cl.Float ∷ cl.Double ∷ cl.Signed ∷ cl.Unsigned ∷ cl.Bool ∷ cl.Struct ∷ cl.Union ∷ cl.Enum ∷ cl.Const ∷ cl.Restrict ∷ cl.Volatile ∷ cl.Atomic ∷ cl.AtomicParen ∷ cl.Inline ∷ cl.Noreturn ∷ cl.Alignas ∷ []); shuns = Some te.Label; flat = true } ∷
+    -- WholeDefinition
+    record { kinds = (490 ∷ []); openers = (487 ∷ []); suffixes = []; firsts = (cl.TypedefName ∷ cl.TypedefColon ∷ cl.Typedef ∷ cl.Extern ∷ cl.Static ∷ cl.ThreadLocal ∷ cl.Auto ∷ cl.Register ∷ cl.Void ∷ cl.Char ∷ cl.Short ∷ cl.Int ∷ cl.Long ∷ cl.Float ∷ cl.Double ∷ cl.Signed ∷ cl.Unsigned ∷ cl.Bool ∷ cl.Struct ∷ cl.Union ∷ cl.Enum ∷ cl.Const ∷ cl.Restrict ∷ cl.Volatile ∷ cl.Atomic ∷ cl.AtomicParen ∷ cl.Inline ∷ cl.Noreturn ∷ cl.Alignas ∷ []); goes = []; shuns = None; flat = false } ∷
+    -- FunctionBody
+    record { kinds = (494 ∷ []); openers = (491 ∷ []); suffixes = []; firsts = (cl.LeftBrace ∷ []); goes = []; shuns = None; flat = false } ∷
     []
 
 -- the tokens that begin an item of a block or what is none: all but what ends the block
@@ -1241,7 +1261,7 @@ entry_classes = cl.Ident ∷ cl.IdentColon ∷ cl.TypedefName ∷ cl.TypedefColo
 
 -- the places where the productions begin, by the numbers of these
 unfoldable pub starts : List ℕ
-starts = 1 ∷ 1 ∷ 1 ∷ 1 ∷ 8 ∷ 15 ∷ 17 ∷ 17 ∷ 24 ∷ 24 ∷ 24 ∷ 24 ∷ 24 ∷ 24 ∷ 38 ∷ 38 ∷ 47 ∷ 49 ∷ 49 ∷ 49 ∷ 49 ∷ 49 ∷ 49 ∷ 65 ∷ 65 ∷ 65 ∷ 65 ∷ 65 ∷ 65 ∷ 72 ∷ 77 ∷ 77 ∷ 77 ∷ 85 ∷ 85 ∷ 91 ∷ 91 ∷ 97 ∷ 97 ∷ 97 ∷ 97 ∷ 107 ∷ 107 ∷ 113 ∷ 117 ∷ 121 ∷ 125 ∷ 129 ∷ 133 ∷ 139 ∷ 143 ∷ 143 ∷ 143 ∷ 143 ∷ 143 ∷ 143 ∷ 143 ∷ 143 ∷ 143 ∷ 143 ∷ 143 ∷ 155 ∷ 159 ∷ 163 ∷ 163 ∷ 166 ∷ 168 ∷ 172 ∷ 172 ∷ 172 ∷ 172 ∷ 172 ∷ 172 ∷ 179 ∷ 179 ∷ 179 ∷ 179 ∷ 179 ∷ 179 ∷ 179 ∷ 179 ∷ 179 ∷ 179 ∷ 190 ∷ 190 ∷ 196 ∷ 196 ∷ 199 ∷ 201 ∷ 205 ∷ 205 ∷ 208 ∷ 210 ∷ 214 ∷ 217 ∷ 217 ∷ 217 ∷ 225 ∷ 227 ∷ 227 ∷ 231 ∷ 236 ∷ 236 ∷ 236 ∷ 236 ∷ 241 ∷ 241 ∷ 244 ∷ 244 ∷ 252 ∷ 255 ∷ 255 ∷ 260 ∷ 260 ∷ 260 ∷ 260 ∷ 260 ∷ 260 ∷ 281 ∷ 286 ∷ 286 ∷ 311 ∷ 311 ∷ 311 ∷ 311 ∷ 311 ∷ 311 ∷ 332 ∷ 332 ∷ 336 ∷ 338 ∷ 342 ∷ 344 ∷ 344 ∷ 349 ∷ 351 ∷ 281 ∷ 286 ∷ 286 ∷ 286 ∷ 286 ∷ 286 ∷ 354 ∷ 354 ∷ 354 ∷ 354 ∷ 286 ∷ 286 ∷ 354 ∷ 354 ∷ 374 ∷ 376 ∷ 376 ∷ 382 ∷ 385 ∷ 388 ∷ 390 ∷ 390 ∷ 396 ∷ 404 ∷ 404 ∷ 404 ∷ 415 ∷ 419 ∷ 421 ∷ 424 ∷ 424 ∷ 424 ∷ 437 ∷ 437 ∷ 437 ∷ 437 ∷ 465 ∷ 465 ∷ 465 ∷ 465 ∷ 476 ∷ 479 ∷ 483 ∷ []
+starts = 1 ∷ 1 ∷ 1 ∷ 1 ∷ 8 ∷ 15 ∷ 17 ∷ 17 ∷ 24 ∷ 24 ∷ 24 ∷ 24 ∷ 24 ∷ 24 ∷ 38 ∷ 38 ∷ 47 ∷ 49 ∷ 49 ∷ 49 ∷ 49 ∷ 49 ∷ 49 ∷ 65 ∷ 65 ∷ 65 ∷ 65 ∷ 65 ∷ 65 ∷ 72 ∷ 77 ∷ 77 ∷ 77 ∷ 85 ∷ 85 ∷ 91 ∷ 91 ∷ 97 ∷ 97 ∷ 97 ∷ 97 ∷ 107 ∷ 107 ∷ 113 ∷ 117 ∷ 121 ∷ 125 ∷ 129 ∷ 133 ∷ 139 ∷ 143 ∷ 143 ∷ 143 ∷ 143 ∷ 143 ∷ 143 ∷ 143 ∷ 143 ∷ 143 ∷ 143 ∷ 143 ∷ 155 ∷ 159 ∷ 163 ∷ 163 ∷ 166 ∷ 168 ∷ 172 ∷ 172 ∷ 172 ∷ 172 ∷ 172 ∷ 172 ∷ 179 ∷ 179 ∷ 179 ∷ 179 ∷ 179 ∷ 179 ∷ 179 ∷ 179 ∷ 179 ∷ 179 ∷ 190 ∷ 190 ∷ 196 ∷ 196 ∷ 199 ∷ 201 ∷ 205 ∷ 205 ∷ 208 ∷ 210 ∷ 214 ∷ 217 ∷ 217 ∷ 217 ∷ 225 ∷ 227 ∷ 227 ∷ 231 ∷ 236 ∷ 236 ∷ 236 ∷ 236 ∷ 241 ∷ 241 ∷ 244 ∷ 244 ∷ 252 ∷ 255 ∷ 255 ∷ 260 ∷ 260 ∷ 260 ∷ 260 ∷ 260 ∷ 260 ∷ 281 ∷ 286 ∷ 286 ∷ 311 ∷ 311 ∷ 311 ∷ 311 ∷ 311 ∷ 311 ∷ 332 ∷ 332 ∷ 336 ∷ 338 ∷ 342 ∷ 344 ∷ 344 ∷ 349 ∷ 351 ∷ 281 ∷ 286 ∷ 286 ∷ 286 ∷ 286 ∷ 286 ∷ 354 ∷ 354 ∷ 354 ∷ 354 ∷ 286 ∷ 286 ∷ 354 ∷ 354 ∷ 374 ∷ 376 ∷ 376 ∷ 382 ∷ 385 ∷ 388 ∷ 390 ∷ 390 ∷ 396 ∷ 404 ∷ 404 ∷ 404 ∷ 415 ∷ 419 ∷ 421 ∷ 424 ∷ 424 ∷ 424 ∷ 437 ∷ 437 ∷ 437 ∷ 437 ∷ 465 ∷ 465 ∷ 465 ∷ 465 ∷ 476 ∷ 479 ∷ 483 ∷ 487 ∷ 491 ∷ []
 
 abbrev pub number : Nonterminal → ℕ
 number nt.PrimaryExpression = 0
@@ -1330,6 +1350,8 @@ number nt.BlockStatement = 82
 number nt.BlockExpressionStatement = 83
 number nt.BlockDeclaration = 84
 number nt.BlockSpecifiers = 85
+number nt.WholeDefinition = 86
+number nt.FunctionBody = 87
 
 abbrev pub place_of : Option Place → Place
 place_of None = nowhere
@@ -1576,6 +1598,8 @@ first_spans =
     record { from = 689; to = 707 } ∷
     record { from = 707; to = 736 } ∷
     record { from = 736; to = 764 } ∷
+    record { from = 125; to = 154 } ∷
+    record { from = 360; to = 361 } ∷
     []
 
 abbrev rows_from : ℕ → List Place → List Row
