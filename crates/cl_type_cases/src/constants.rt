@@ -83,103 +83,122 @@ fn leaf_of(alloc: Global, word: &str) -> Mem<TypedExpr> {
     }
 }
 
-/// The part that is on top of those so far.
-fn taken(alloc: Global, stack: &mut List<TypedExpr>) -> TypedExpr {
-    match stack.pop() {
-        Some(part) => part,
-        None => wrong(alloc),
-    }
-}
-
-fn over_one(alloc: Global, stack: &mut List<TypedExpr>, word: &str) -> Mem<TypedExpr> {
-    let a = taken(alloc, stack);
-    let (op, operand) = match word {
-        "call" => (Typed::Call, call(alloc, &a.operand)?),
-        _ => {
-            let op = unary_op(word);
-            (Typed::Unary(op), unary(alloc, op, &a.operand)?)
+/// The parts on top of those so far, in order.
+fn taken(alloc: Global, stack: &mut List<TypedExpr>, count: u8) -> Mem<List<TypedExpr>> {
+    let mut reversed = List::new(alloc);
+    for _ in 0..count {
+        if let Some(part) = stack.pop() {
+            reversed.push(part)?;
         }
-    };
-    let mut parts = List::new(alloc);
-    parts.push(a)?;
-    Ok(made(op, operand, parts))
-}
-
-/// A cast to the type of a chain in parentheses.
-fn cast_over(alloc: Global, stack: &mut List<TypedExpr>, word: &str) -> Mem<TypedExpr> {
-    let a = taken(alloc, stack);
-    let text = word.strip_prefix("(").unwrap_or(word);
-    let to = type_of(alloc, text.strip_suffix(")").unwrap_or(text))?;
-    let operand = cast(alloc, &to, &a.operand)?;
-    let mut parts = List::new(alloc);
-    parts.push(a)?;
-    Ok(made(Typed::Cast, operand, parts))
-}
-
-fn over_two(alloc: Global, stack: &mut List<TypedExpr>, word: &str) -> Mem<TypedExpr> {
-    let b = taken(alloc, stack);
-    let a = taken(alloc, stack);
-    let op = binary_op(word);
-    let operand = binary(alloc, op, &a.operand, &b.operand)?;
-    let mut parts = List::new(alloc);
-    parts.push(a)?;
-    parts.push(b)?;
-    Ok(made(Typed::Binary(op), operand, parts))
-}
-
-/// `?:`, or a generic selection of three parts that selects the last and has type `int`.
-fn over_three(alloc: Global, stack: &mut List<TypedExpr>, word: &str) -> Mem<TypedExpr> {
-    let c = taken(alloc, stack);
-    let b = taken(alloc, stack);
-    let a = taken(alloc, stack);
-    let chosen = conditional(alloc, &a.operand, &b.operand, &c.operand)?;
-    let mut parts = List::new(alloc);
-    parts.push(a)?;
-    parts.push(b)?;
-    parts.push(c)?;
-    match word {
-        "?:" => Ok(made(Typed::Select, chosen, parts)),
-        _ => Ok(made(Typed::Generic(2), Some(value(CType::Int)), parts)),
     }
+    let mut parts = List::new(alloc);
+    for _ in 0..count {
+        if let Some(part) = reversed.pop() {
+            parts.push(part)?;
+        }
+    }
+    Ok(parts)
 }
 
 /// How many operands an operator has, and 0 of what is none.
 fn operand_count(word: &str) -> u8 {
     match word.as_bytes() {
         [b'?', ..] | [b'g', b'e', ..] => 3,
-        [_, b'_'] | [b'+', b'+', b'_'] | [b'c', b'a', ..] => 1,
-        [b'(', ..] => 4,
+        [_, b'_'] | [b'+', b'+', b'_'] | [b'c', b'a', ..] | [b'(', ..] => 1,
         [b'\'', ..] | [b'.', ..] => 0,
         [b'!'..=b'/' | b'<'..=b'>' | b'[' | b'^' | b'|', ..] => 2,
         _ => 0,
     }
 }
 
-/// The expression that a word ends.
-fn next(alloc: Global, stack: &mut List<TypedExpr>, word: &str) -> Mem<TypedExpr> {
-    match operand_count(word) {
-        1 => over_one(alloc, stack, word),
-        2 => over_two(alloc, stack, word),
-        3 => over_three(alloc, stack, word),
-        4 => cast_over(alloc, stack, word),
-        _ => leaf_of(alloc, word),
+/// What an operator is: a word in parentheses a cast, `generic` a generic selection of three parts that selects the last.
+fn op_of(word: &str) -> Typed {
+    match word.as_bytes() {
+        [b'?', ..] => Typed::Select,
+        [b'g', ..] => Typed::Generic(2),
+        [b'c', ..] => Typed::Call,
+        [b'(', ..] => Typed::Cast,
+        _ => {
+            if operand_count(word) == 1 {
+                Typed::Unary(unary_op(word))
+            } else {
+                Typed::Binary(binary_op(word))
+            }
+        }
     }
 }
 
-/// The value of an expression as a constant one: a number, `?` where it isn't known, or `none`.
-pub(crate) fn value_of(alloc: Global, text: &str) -> Mem<String> {
+/// A cast to the type of a chain in parentheses.
+fn cast_to(alloc: Global, word: &str, a: &Operand) -> Mem<Option<Operand>> {
+    let text = word.strip_prefix("(").unwrap_or(word);
+    let to = type_of(alloc, text.strip_suffix(")").unwrap_or(text))?;
+    cast(alloc, &to, a)
+}
+
+fn over_one(alloc: Global, word: &str, a: &Operand) -> Mem<Option<Operand>> {
+    match word.as_bytes() {
+        [b'(', ..] => cast_to(alloc, word, a),
+        [b'c', ..] => call(alloc, a),
+        _ => unary(alloc, unary_op(word), a),
+    }
+}
+
+/// What an operation is as an operand; a generic selection has type `int`.
+fn operand_of(alloc: Global, word: &str, parts: &[TypedExpr]) -> Mem<Option<Operand>> {
+    match parts {
+        [a] => over_one(alloc, word, &a.operand),
+        [a, b] => binary(alloc, binary_op(word), &a.operand, &b.operand),
+        [a, b, c] => match word {
+            "?:" => conditional(alloc, &a.operand, &b.operand, &c.operand),
+            _ => Ok(Some(value(CType::Int))),
+        },
+        _ => Ok(None),
+    }
+}
+
+/// An operation over the parts on top of those so far.
+fn operation(alloc: Global, stack: &mut List<TypedExpr>, word: &str) -> Mem<TypedExpr> {
+    let parts = taken(alloc, stack, operand_count(word))?;
+    let operand = operand_of(alloc, word, parts.as_slice())?;
+    Ok(made(op_of(word), operand, parts))
+}
+
+/// The expression that a word ends.
+fn next(alloc: Global, stack: &mut List<TypedExpr>, word: &str) -> Mem<TypedExpr> {
+    if operand_count(word) == 0 {
+        leaf_of(alloc, word)
+    } else {
+        operation(alloc, stack, word)
+    }
+}
+
+/// The expressions that are not yet parts of others.
+fn stack_of(alloc: Global, text: &str) -> Mem<List<TypedExpr>> {
     let mut stack = List::new(alloc);
     for word in text.split(' ') {
         let made = next(alloc, &mut stack, word)?;
         stack.push(made)?;
     }
-    let whole = taken(alloc, &mut stack);
-    match eval_const(alloc, &Tags::none(alloc), &whole)? {
+    Ok(stack)
+}
+
+/// A value: a number, `?` where it isn't known, or `none`.
+fn said(alloc: Global, value: Value) -> Mem<String> {
+    match value {
         Value::Known(number) => {
             let shown = format!(in alloc; "{number}")?;
             Ok(shown)
         }
         Value::Unknown => Ok(String::from_str(alloc, "?")?),
         Value::NotConst => Ok(String::from_str(alloc, "none")?),
+    }
+}
+
+/// The value of an expression as a constant one.
+pub(crate) fn value_of(alloc: Global, text: &str) -> Mem<String> {
+    let stack = stack_of(alloc, text)?;
+    match stack.as_slice() {
+        [whole] => said(alloc, eval_const(alloc, &Tags::none(alloc), whole)?),
+        _ => Ok(String::from_str(alloc, "-")?),
     }
 }
