@@ -1,0 +1,81 @@
+//! Documents of many items and of deep invocations, from their text to their symbols.
+
+use cl_base::{Answer, Config, List, Mem, Memory, Path, Query, Text};
+use cl_headers::HeaderMap;
+use cl_query::{Job, JobAnswer, run_job};
+use std::alloc::Global;
+
+/// How many lines the one document has.
+const LINES: usize = 150_000;
+
+/// How many invocations stand in one another in the other.
+const DEPTH: usize = 60_000;
+
+/// A function with its body, and an item that is none.
+const LINE: &[u8] = b"int a(int b) { return b; } +;\n";
+
+#[test]
+fn many_items(rt: HostRuntime) -> Result<(), Memory> {
+    let alloc = rt.alloc();
+    let mut text = Vec::new(alloc);
+    repeat(&mut text, LINE, LINES)?;
+    assert!(rt;
+        symbols_of(alloc, text)? == LINES,
+        "a symbol for each function"
+    );
+    Ok(())
+}
+
+#[test]
+fn deep_invocations(rt: HostRuntime) -> Result<(), Memory> {
+    let alloc = rt.alloc();
+    let mut text = Vec::new(alloc);
+    repeat(&mut text, b"#define f(a) a\n", 1)?;
+    repeat(&mut text, b"f(", DEPTH)?;
+    repeat(&mut text, b"int x;", 1)?;
+    repeat(&mut text, b")", DEPTH)?;
+    assert!(rt;
+        symbols_of(alloc, text)? == 1,
+        "the one that stands in all of them"
+    );
+    Ok(())
+}
+
+/// Adds so many times these bytes.
+fn repeat(text: &mut Vec<u8>, bytes: &[u8], count: usize) -> Mem<()> {
+    for _ in 0..count {
+        text.extend_from_slice(bytes)?;
+    }
+    Ok(())
+}
+
+/// How many symbols a document has.
+fn symbols_of(alloc: Global, text: Vec<u8>) -> Mem<usize> {
+    let job = job_of(alloc, text)?;
+    count(run_job(alloc, job))
+}
+
+/// The job of a query for the symbols of the document.
+fn job_of(alloc: Global, text: Vec<u8>) -> Mem<Job> {
+    Ok(Job {
+        number: 1,
+        message: 2,
+        mark: 3,
+        path: Path::new(alloc, "/a.c")?,
+        version: 4,
+        text: Text::from_vec(alloc, text)?,
+        config: Config::new(alloc, List::new(alloc), List::new(alloc))?,
+        headers: HeaderMap::new(alloc)?,
+        kind: Query::Symbols,
+    })
+}
+
+/// How many symbols were found.
+fn count(answer: JobAnswer) -> Mem<usize> {
+    match answer {
+        JobAnswer::Done(done) => match &done.answer {
+            Answer::Symbols(symbols) => Ok(symbols.len()),
+        },
+        JobAnswer::Need(_) | JobAnswer::Memory(_) => Err(Memory),
+    }
+}
