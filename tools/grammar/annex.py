@@ -11,7 +11,7 @@ CLASSES = ("Ident IdentColon TypedefName TypedefColon Constant String LeftParen 
   "Sizeof Alignof Generic Default Case If Else Switch While Do For Goto Continue Break Return StaticAssert Typedef Extern Static ThreadLocal Auto Register "
   "Void Char Short Int Long Float Double Signed Unsigned Bool Struct Union Enum Const Restrict Volatile Atomic AtomicParen Inline Noreturn Alignas Other").split()
 SETS = {'Name': 'Ident IdentColon TypedefName TypedefColon'.split(), 'Open': 'LeftParen TypeParen LiteralParen'.split(), 'TypeOpen': 'TypeParen LiteralParen'.split(), 'Typed': 'TypedefName TypedefColon'.split(),
-  'Label': 'IdentColon TypedefColon'.split(), 'Marked': 'IdentColon TypedefName TypedefColon'.split(), 'Body': ['LeftBrace']}
+  'Label': 'IdentColon TypedefColon'.split(), 'Marked': 'IdentColon TypedefName TypedefColon'.split()}
 ACTS = 'Stay Typedef Name Declare Finish Forget Open Close Shut Begin'.split()
 RULES_TREE = ("PrimaryExpression GenericSelection GenericAssocList GenericAssociation PostfixExpression ArgumentExpressionList UnaryExpression UnaryOperator CastExpression "
   "MultiplicativeExpression AdditiveExpression ShiftExpression RelationalExpression EqualityExpression AndExpression ExclusiveOrExpression InclusiveOrExpression "
@@ -24,7 +24,7 @@ RULES_TREE = ("PrimaryExpression GenericSelection GenericAssocList GenericAssoci
   "TranslationUnit ExternalDeclaration FunctionDefinition").split()
 # nonterminals that aren't the standard's: a rule of it in one context
 EXTRA = ("OtherSpecifier LaterTypeSpecifier LaterSpecifier ParameterDeclarator DirectParameterDeclarator AnyDeclarator DirectAnyDeclarator "
-  "UnlabelledExpression PlainExpression BlockStatement BlockExpressionStatement BlockDeclaration BlockSpecifiers WholeDefinition FunctionBody").split()
+  "UnlabelledExpression PlainExpression BlockStatement BlockExpressionStatement BlockDeclaration BlockSpecifiers FunctionBody").split()
 def T(c, act='Stay'): return ('T', c, act)
 def N(g): return ('N', g)
 ENTRY = ('I', 'BlockItem')      # an item of a block, or what is none
@@ -172,6 +172,5 @@ SHUNS = dict(UnlabelledExpression='Label', PlainExpression='Marked', BlockSpecif
 
 S('External definitions', 'A.2.4')
 f = 'FunctionDefinition'
-R(f, f, 0, N('DeclarationSpecifiers'), N('Declarator'), T('Body', 'Finish'))
-R('WholeDefinition', f, 0, N('DeclarationSpecifiers'), N('Declarator'), N('FunctionBody'))
+R(f, f, 0, N('DeclarationSpecifiers'), N('Declarator'), N('FunctionBody'))
 R('FunctionBody', 'CompoundStatement', 0, T('LeftBrace', 'Begin'), opt(N('BlockItemList')), T('RightBrace', 'Close'))

@@ -553,7 +553,7 @@ use Rattle.cl_tree.specs.declared.rule.Rule.TheVariants as ru
 use Rattle.cl_expr.specs.code.Table.{number}
 
 '''
-for one, ty, m, xs in (('class', 'Class', 'cl', CLASSES), ('goal', 'Nonterminal', 'nt', GOALS), ('act', 'Act', 'ac', ACTS), ('rule', 'Rule', 'ru', ['Token', 'Hole', 'Bad'] + RULES_TREE)):
+for one, ty, m, xs in (('class', 'Class', 'cl', CLASSES), ('goal', 'Nonterminal', 'nt', GOALS), ('act', 'Act', 'ac', ACTS), ('rule', 'Rule', 'ru', ['Token', 'Bad'] + RULES_TREE)):
     many = 'classes' if one == 'class' else one + 's'
     L += f'abbrev pub all_{many} : List {ty}\nall_{many} = {" ∷ ".join([m + "." + x for x in xs] + ["[]"])}\n\n'
     if one == 'goal': num = 'number'

@@ -13,13 +13,13 @@ SECTIONS = dict(PrimaryExpression='6.5.1', GenericSelection='6.5.1.1', GenericAs
   ParameterTypeList='6.7.6', ParameterList='6.7.6', ParameterDeclaration='6.7.6', IdentifierList='6.7.6', TypeName='6.7.7', AbstractDeclarator='6.7.7', DirectAbstractDeclarator='6.7.7', TypedefName='6.7.8',
   Initializer='6.7.9', InitializerList='6.7.9', Designation='6.7.9', DesignatorList='6.7.9', Designator='6.7.9', StaticAssertDeclaration='6.7.10',
   Statement='6.8', LabeledStatement='6.8.1', CompoundStatement='6.8.2', BlockItemList='6.8.2', BlockItem='6.8.2', ExpressionStatement='6.8.3', SelectionStatement='6.8.4', IterationStatement='6.8.5', JumpStatement='6.8.6',
-  UnlabelledExpression='6.8.3', PlainExpression='6.8.3', BlockStatement='6.8.2', BlockExpressionStatement='6.8.2', BlockDeclaration='6.8.2', BlockSpecifiers='6.8.2', WholeDefinition='6.9.1', FunctionBody='6.9.1', TranslationUnit='6.9', ExternalDeclaration='6.9', FunctionDefinition='6.9.1', AnyDeclarator='6.7.6', DirectAnyDeclarator='6.7.6')
+  UnlabelledExpression='6.8.3', PlainExpression='6.8.3', BlockStatement='6.8.2', BlockExpressionStatement='6.8.2', BlockDeclaration='6.8.2', BlockSpecifiers='6.8.2', FunctionBody='6.9.1', TranslationUnit='6.9', ExternalDeclaration='6.9', FunctionDefinition='6.9.1', AnyDeclarator='6.7.6', DirectAnyDeclarator='6.7.6')
 EXTRA_DOC = dict(OtherSpecifier='A specifier of a declaration that is no type specifier', LaterSpecifier='A specifier of a declaration after a type specifier', LaterTypeSpecifier='A type specifier that is no typedef name: any after another one',
   LaterQualifier='A qualifier, or a type specifier after another one', ParameterDeclarator='A declarator of a parameter: after its `(` a type begins parameters', DirectParameterDeclarator='A direct-declarator of a parameter',
   AnyDeclarator='A declarator of a parameter, or an abstract one', DirectAnyDeclarator='A direct-declarator of a parameter, or an abstract one',
   UnlabelledExpression='An expression that begins with no label: that of an expression statement', PlainExpression='An expression that begins with no label and no typedef name: where a declaration may stand too',
   BlockStatement='A statement of a block: it begins with no typedef name', BlockExpressionStatement='An expression-statement of a block', BlockDeclaration='A declaration of a block: it begins with no label',
-  BlockSpecifiers='The specifiers of a declaration of a block', WholeDefinition='A function-definition whose body is read too', FunctionBody='The compound-statement of a function-definition: its parameters are declared in it')
+  BlockSpecifiers='The specifiers of a declaration of a block', FunctionBody='The compound-statement of a function-definition: its parameters are declared in it')
 import re
 def dashed(n): return re.sub(r'(?<=[a-z])(?=[A-Z])', '-', n).lower().replace('and-expression', 'AND-expression') if n == 'AndExpression' else re.sub(r'(?<=[a-z])(?=[A-Z])', '-', n).lower()
 STD = {'GenericAssocList': 'generic-assoc-list', 'AndExpression': 'AND-expression', 'ExclusiveOrExpression': 'exclusive-OR-expression', 'InclusiveOrExpression': 'inclusive-OR-expression', 'LogicalAndExpression': 'logical-AND-expression',
@@ -50,7 +50,7 @@ def enum(name, doc, items, derive='Clone, Copy, Debug, PartialEq, Eq'):
     return f'/// {doc}\n#[derive({derive})]\npub enum {name} {{\n' + ''.join(f'    /// {d}.\n    {x},\n' for x, d in items) + '}\n'
 if __name__ == '__main__':
     w('src/rule.rt', enum('Rule', 'What a tree is: a rule of the grammar (N1570 A.2), one token, or what is no tree of the grammar.',
-      [('Token', 'One token'), ('Hole', 'A range that another parser reads'), ('Bad', 'Tokens that are no item of a block')] + [(r, f'{std(r)} ({SECTIONS[r]})') for r in RULES_TREE]))
+      [('Token', 'One token'), ('Bad', 'Tokens that are no item of a block')] + [(r, f'{std(r)} ({SECTIONS[r]})') for r in RULES_TREE]))
     w('src/class.rt', enum('Class', 'What the grammar tells of a token. Some classes look at the token after it, and at the partner of a `(`.',
       [(c, CLASS_DOC.get(c) or ('`' + (SPELL[c] if c in SPELL else word(c)) + '`')) for c in CLASSES]))
     w('src/nonterminal.rt', enum('Nonterminal', 'A nonterminal of the grammar: those of N1570 A.2, and some that tell apart where one of them stands.',
@@ -65,7 +65,7 @@ use crate::nonterminal::Nonterminal;
 use crate::rule::Rule;
 
 '''
-    o += enum('Terminal', 'The tokens that a production takes at a place.', [('Is(Class)', 'Those of one class'), ('Name', 'An identifier, a typedef name too'), ('Open', 'Any `(`'), ('TypeOpen', '`(` before what may begin a type'), ('Typed', 'A typedef name'), ('Label', 'An identifier directly before `:`'), ('Marked', 'An identifier that is a typedef name, or stands directly before `:`'), ('Body', '`{` with all up to its partner: a body, which is read as one part')], 'Clone, Copy') + '\n'
+    o += enum('Terminal', 'The tokens that a production takes at a place.', [('Is(Class)', 'Those of one class'), ('Name', 'An identifier, a typedef name too'), ('Open', 'Any `(`'), ('TypeOpen', '`(` before what may begin a type'), ('Typed', 'A typedef name'), ('Label', 'An identifier directly before `:`'), ('Marked', 'An identifier that is a typedef name, or stands directly before `:`')], 'Clone, Copy') + '\n'
     o += enum('Act', 'What reading a token does to the names that are declared.', [('Stay', 'Nothing'), ('Typedef', 'What is declared from here on is a typedef name'), ('Name', 'The token is the name that is being declared'), ('Declare', 'The name that is being declared is so from here on'),
       ('Finish', 'The same, and what is declared after it is no typedef name'), ('Forget', 'The name that is being declared is a member and hides nothing'), ('Open', 'A list of parameters, members or enumerators begins, or a block'), ('Close', 'A list of parameters or a block ends, and its names with it'), ('Shut', 'A list of members or enumerators ends; its names stay'), ('Begin', 'The body of a function begins: its name is declared, and in the body what its list of parameters declared')], 'Clone, Copy') + '\n'
     o += '''/// A symbol of a right side.

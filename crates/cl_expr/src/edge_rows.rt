@@ -60,7 +60,7 @@ macro_rules! rows {
     };
 }
 
-static EDGES: [Edge; 469] = rows! {
+static EDGES: [Edge; 466] = rows! {
     edge!(token!(Terminal::Name), 2), edge!(token!(is!(Constant)), 3), edge!(token!(is!(String)), 4),
     edge!(token!(is!(LeftParen)), 5), edge!(token!(is!(String)), 4), edge!(node!(Expression), 6),
     edge!(token!(is!(RightParen)), 7), edge!(token!(is!(Generic)), 9), edge!(token!(Terminal::Open), 10),
@@ -214,9 +214,8 @@ static EDGES: [Edge; 469] = rows! {
     edge!(token!(is!(Semicolon)), 475), edge!(node!(PlainExpression), 477), edge!(token!(is!(Semicolon)), 478),
     edge!(token!(is!(Semicolon)), 478), edge!(node!(BlockSpecifiers), 480), edge!(node!(InitDeclaratorList), 481),
     edge!(act!(is!(Semicolon), Finish), 482), edge!(act!(is!(Semicolon), Finish), 482), edge!(node!(DeclarationSpecifiers), 484),
-    edge!(node!(Declarator), 485), edge!(act!(Terminal::Body, Finish), 486), edge!(node!(DeclarationSpecifiers), 488),
-    edge!(node!(Declarator), 489), edge!(node!(FunctionBody), 490), edge!(act!(is!(LeftBrace), Begin), 492),
-    edge!(node!(BlockItemList), 493), edge!(act!(is!(RightBrace), Close), 494), edge!(act!(is!(RightBrace), Close), 494),
+    edge!(node!(Declarator), 485), edge!(node!(FunctionBody), 486), edge!(act!(is!(LeftBrace), Begin), 488),
+    edge!(node!(BlockItemList), 489), edge!(act!(is!(RightBrace), Close), 490), edge!(act!(is!(RightBrace), Close), 490),
 };
 
 /// The edges of all places, one place after the other.

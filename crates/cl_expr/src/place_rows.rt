@@ -93,7 +93,7 @@ macro_rules! rows {
     };
 }
 
-static ROWS: [Row; 495] = rows! {
+static ROWS: [Row; 491] = rows! {
     inner!(0, 0), inner!(0, 4), ending!(4, 4, PrimaryExpression, 0), ending!(4, 4, PrimaryExpression, 1),
     ending!(4, 5, PrimaryExpression, 2), inner!(5, 6), inner!(6, 7), ending!(7, 7, PrimaryExpression, 3), inner!(7, 8),
     inner!(8, 9), inner!(9, 10), inner!(10, 11), inner!(11, 12), inner!(12, 13), ending!(13, 13, GenericSelection, 0),
@@ -212,9 +212,8 @@ static ROWS: [Row; 495] = rows! {
     ending!(449, 449, JumpStatement, 2), inner!(449, 451), inner!(451, 452), ending!(452, 452, JumpStatement, 3),
     inner!(452, 454), inner!(454, 455), ending!(455, 455, ExpressionStatement, 0), inner!(455, 456), inner!(456, 458),
     inner!(458, 459), ending!(459, 459, Declaration, 0), inner!(459, 460), inner!(460, 461), inner!(461, 462),
-    ending!(462, 462, FunctionDefinition, 0), inner!(462, 463), inner!(463, 464), inner!(464, 465),
-    ending!(465, 465, FunctionDefinition, 0), inner!(465, 466), inner!(466, 468), inner!(468, 469),
-    ending!(469, 469, CompoundStatement, 0),
+    ending!(462, 462, FunctionDefinition, 0), inner!(462, 463), inner!(463, 465), inner!(465, 466),
+    ending!(466, 466, CompoundStatement, 0),
 };
 
 /// The places.

@@ -6,7 +6,6 @@ use Rattle.cl_tree.specs.declared.rule.Rule.TheVariants as ru
 use Rattle.cl_tree.specs.declared.nonterminal.Nonterminal.{Nonterminal}
 use Rattle.cl_tree.specs.declared.nonterminal.Nonterminal.TheVariants as nt
 use Rattle.cl_tree.specs.declared.grammar.Terminal.{Terminal}
-use Rattle.cl_tree.specs.declared.grammar.Terminal.TheVariants as te
 use Rattle.cl_tree.specs.declared.grammar.Symbol.{Symbol}
 use Rattle.cl_tree.specs.declared.grammar.Symbol.TheVariants.{Token, Node, Entry}
 use Rattle.cl_tree.specs.declared.grammar.Part.{Part}
@@ -23,7 +22,7 @@ use Rattle.cl_base.specs.declared.token.PpToken.{PpToken}
 use Rattle.cl_tree.specs.Brackets.{brackets}
 use Rattle.cl_tree.specs.Lexemes.{lexemes}
 use Rattle.cl_tree.specs.Sets.{has}
-use Rattle.cl_tree.specs.BadItems.{partner_of, closes_at, bad_end}
+use Rattle.cl_tree.specs.BadItems.{closes_at, bad_end}
 use Rattle.cl_tree.specs.Grammar.{Production, productions, units, takes, shuns}
 
 -- x stands somewhere in the list
@@ -43,10 +42,6 @@ parts t = (out-Tree t).parts
 abbrev pub leaf : ℕ → Tree
 leaf at = roll-Tree (record { rule = ru.Token; choice = 0; from = at; to = at + 1; parts = [] })
 
--- the tree of tokens that are not looked into
-abbrev pub hole : ℕ → ℕ → Tree
-hole from to = roll-Tree (record { rule = ru.Hole; choice = 0; from = from; to = to; parts = [] })
-
 -- the tree of tokens that are no item
 abbrev pub bad : ℕ → ℕ → Tree
 bad from to = roll-Tree (record { rule = ru.Bad; choice = 0; from = from; to = to; parts = [] })
@@ -54,22 +49,6 @@ bad from to = roll-Tree (record { rule = ru.Bad; choice = 0; from = from; to = t
 -- a token is there that ends no block
 abbrev pub Within : List Lexeme → Scope → ℕ → Type 0
 Within ts s at = (c : Class) × (class_at ts s at ≡ Some c) × (c ≡ cl.RightBrace → ⊥) × (closes_at ts at ≡ false)
-
-abbrev pub is_body : Terminal → Bool
-is_body te.Body = true
-is_body _ = false
-
--- the last token of what a terminal stands for: the token itself, or the partner of a body's `{`
-abbrev pub last_token : List Lexeme → Terminal → ℕ → ℕ
-last_token ts k at = cond (is_body k) (partner_of (slice_get ts at)) at
-
--- the tree of it: a leaf, or a body's one
-abbrev pub piece : List Lexeme → Terminal → ℕ → Tree
-piece ts k at = roll-Tree (record { rule = cond (is_body k) ru.Hole ru.Token; choice = 0; from = at; to = last_token ts k at + 1; parts = [] })
-
--- a body's `{` has its partner `}` after it
-abbrev pub Closed : List Lexeme → Scope → Terminal → ℕ → Type 0
-Closed ts s k at = is_body k ≡ true → (at + 1 ≤ last_token ts k at) × (class_at ts s (last_token ts k at) ≡ Some cl.RightBrace)
 
 -- all of these may be left out
 abbrev pub left_out : List Part → Bool
@@ -124,8 +103,7 @@ Opened ts g s at = (c : Class) → class_at ts s at ≡ Some c → Has (barred (
 module _ (D : Nonterminal → Scope → Tree → Scope → Type 0) (h : ℕ) (ts : List Lexeme) where
   -- the tree is what a symbol stands for, from a token on, of a height of at most h, where s is declared before it and w after it
   abbrev pub Reads : Symbol → Scope → ℕ → Tree → Scope → Type 0
-  Reads (Token k a) s at p w =
-      (1 ≤ h) × (p ≡ piece ts k at) × ((c : Class) × (class_at ts s at ≡ Some c) × Has (takes k) c) × (w ≡ pass ts s a at) × Closed ts s k at
+  Reads (Token k a) s at p w = (1 ≤ h) × (p ≡ leaf at) × ((c : Class) × (class_at ts s at ≡ Some c) × Has (takes k) c) × (w ≡ pass ts s a at)
   Reads (Node g) s at p w = D g s p w × (start p ≡ at)
   Reads Entry s at p w =
       (D nt.BlockItem s p w × (start p ≡ at))

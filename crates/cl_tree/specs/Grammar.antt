@@ -39,7 +39,6 @@ takes te.TypeOpen = cl.TypeParen ∷ cl.LiteralParen ∷ []
 takes te.Typed = cl.TypedefName ∷ cl.TypedefColon ∷ []
 takes te.Label = cl.IdentColon ∷ cl.TypedefColon ∷ []
 takes te.Marked = cl.IdentColon ∷ cl.TypedefName ∷ cl.TypedefColon ∷ []
-takes te.Body = cl.LeftBrace ∷ []
 
 abbrev pub is : Class → Terminal
 is k = te.Is k
@@ -346,9 +345,7 @@ productions =
     -- A declaration of a block: it begins with no label (6.8.2)
     production nt.BlockDeclaration ru.Declaration 0 (one (n nt.BlockSpecifiers) ∷ opt (n nt.InitDeclaratorList) ∷ one (act (is cl.Semicolon) ac.Finish) ∷ []) ∷
     -- function-definition (6.9.1)
-    production nt.FunctionDefinition ru.FunctionDefinition 0 (one (n nt.DeclarationSpecifiers) ∷ one (n nt.Declarator) ∷ one (act te.Body ac.Finish) ∷ []) ∷
-    -- A function-definition whose body is read too (6.9.1)
-    production nt.WholeDefinition ru.FunctionDefinition 0 (one (n nt.DeclarationSpecifiers) ∷ one (n nt.Declarator) ∷ one (n nt.FunctionBody) ∷ []) ∷
+    production nt.FunctionDefinition ru.FunctionDefinition 0 (one (n nt.DeclarationSpecifiers) ∷ one (n nt.Declarator) ∷ one (n nt.FunctionBody) ∷ []) ∷
     -- The compound-statement of a function-definition: its parameters are declared in it (6.9.1)
     production nt.FunctionBody ru.CompoundStatement 0 (one (act (is cl.LeftBrace) ac.Begin) ∷ opt (n nt.BlockItemList) ∷ one (act (is cl.RightBrace) ac.Close) ∷ []) ∷
     []

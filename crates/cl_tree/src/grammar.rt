@@ -21,8 +21,6 @@ pub enum Terminal {
     Label,
     /// An identifier that is a typedef name, or stands directly before `:`.
     Marked,
-    /// `{` with all up to its partner: a body, which is read as one part.
-    Body,
 }
 
 /// What reading a token does to the names that are declared.

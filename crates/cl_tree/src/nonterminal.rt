@@ -173,8 +173,6 @@ pub enum Nonterminal {
     BlockDeclaration,
     /// The specifiers of a declaration of a block (6.8.2).
     BlockSpecifiers,
-    /// A function-definition whose body is read too (6.9.1).
-    WholeDefinition,
     /// The compound-statement of a function-definition: its parameters are declared in it (6.9.1).
     FunctionBody,
 }

@@ -50,7 +50,7 @@ macro_rules! rows {
     };
 }
 
-static PARTS: [Part; 502] = rows! {
+static PARTS: [Part; 499] = rows! {
     Part::One(token!(Terminal::Name)),
     Part::One(token!(is!(Constant))),
     Part::One(token!(is!(String))), Part::Many(token!(is!(String))),
@@ -281,7 +281,6 @@ static PARTS: [Part; 502] = rows! {
     Part::One(token!(is!(Return))), Part::Optional(node!(Expression)), Part::One(token!(is!(Semicolon))),
     Part::Optional(node!(PlainExpression)), Part::One(token!(is!(Semicolon))),
     Part::One(node!(BlockSpecifiers)), Part::Optional(node!(InitDeclaratorList)), Part::One(act!(is!(Semicolon), Finish)),
-    Part::One(node!(DeclarationSpecifiers)), Part::One(node!(Declarator)), Part::One(act!(Terminal::Body, Finish)),
     Part::One(node!(DeclarationSpecifiers)), Part::One(node!(Declarator)), Part::One(node!(FunctionBody)),
     Part::One(act!(is!(LeftBrace), Begin)), Part::Optional(node!(BlockItemList)), Part::One(act!(is!(RightBrace), Close)),
 };

@@ -83,7 +83,7 @@ macro_rules! unit {
     };
 }
 
-static PRODUCTIONS: [Production; 181] = [
+static PRODUCTIONS: [Production; 180] = [
     made!(PrimaryExpression, PrimaryExpression, 0, 0, 1),
     made!(PrimaryExpression, PrimaryExpression, 1, 1, 2),
     made!(PrimaryExpression, PrimaryExpression, 2, 2, 4),
@@ -365,8 +365,7 @@ static PRODUCTIONS: [Production; 181] = [
     made!(BlockExpressionStatement, ExpressionStatement, 0, 488, 490),
     made!(BlockDeclaration, Declaration, 0, 490, 493),
     made!(FunctionDefinition, FunctionDefinition, 0, 493, 496),
-    made!(WholeDefinition, FunctionDefinition, 0, 496, 499),
-    made!(FunctionBody, CompoundStatement, 0, 499, 502),
+    made!(FunctionBody, CompoundStatement, 0, 496, 499),
 ];
 
 static UNITS: [Unit; 65] = [

@@ -3,8 +3,6 @@
 pub enum Rule {
     /// One token.
     Token,
-    /// A range that another parser reads.
-    Hole,
     /// Tokens that are no item of a block.
     Bad,
     /// primary-expression (6.5.1).

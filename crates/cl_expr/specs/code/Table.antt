@@ -1049,30 +1049,22 @@ places =
     row (e (Token (te.Is cl.Semicolon) ac.Finish) 482 ∷ []) None None false None None false 479 true [] (i 177 2 ∷ []) ∷
     -- 482: BlockDeclaration -> BlockSpecifiers InitDeclaratorList? Semicolon .
     row [] (label ru.Declaration 0) None false None None false 479 true [] (i 177 3 ∷ []) ∷
-    -- 483: FunctionDefinition -> . DeclarationSpecifiers Declarator Body
-    row (e (Node nt.DeclarationSpecifiers) 484 ∷ []) None None false None None false 483 true [] (i 178 0 ∷ []) ∷
-    -- 484: FunctionDefinition -> DeclarationSpecifiers . Declarator Body
-    row (e (Node nt.Declarator) 485 ∷ []) None None false None None false 483 true [] (i 178 1 ∷ []) ∷
-    -- 485: FunctionDefinition -> DeclarationSpecifiers Declarator . Body
-    row (e (Token te.Body ac.Finish) 486 ∷ []) None None false None None false 483 true [] (i 178 2 ∷ []) ∷
-    -- 486: FunctionDefinition -> DeclarationSpecifiers Declarator Body .
-    row [] (label ru.FunctionDefinition 0) None false None None false 483 true [] (i 178 3 ∷ []) ∷
-    -- 487: WholeDefinition -> . DeclarationSpecifiers Declarator FunctionBody
-    row (e (Node nt.DeclarationSpecifiers) 488 ∷ []) None None false None None false 487 false [] (i 179 0 ∷ []) ∷
-    -- 488: WholeDefinition -> DeclarationSpecifiers . Declarator FunctionBody
-    row (e (Node nt.Declarator) 489 ∷ []) None None false None None false 487 false [] (i 179 1 ∷ []) ∷
-    -- 489: WholeDefinition -> DeclarationSpecifiers Declarator . FunctionBody
-    row (e (Node nt.FunctionBody) 490 ∷ []) None None false None None false 487 false [] (i 179 2 ∷ []) ∷
-    -- 490: WholeDefinition -> DeclarationSpecifiers Declarator FunctionBody .
-    row [] (label ru.FunctionDefinition 0) None false None None false 487 false [] (i 179 3 ∷ []) ∷
-    -- 491: FunctionBody -> . LeftBrace BlockItemList? RightBrace
-    row (e (Token (te.Is cl.LeftBrace) ac.Begin) 492 ∷ []) None None false None None false 491 false [] (i 180 0 ∷ []) ∷
-    -- 492: FunctionBody -> LeftBrace . BlockItemList? RightBrace
-    row (e (Node nt.BlockItemList) 493 ∷ e (Token (te.Is cl.RightBrace) ac.Close) 494 ∷ []) None None false None None false 491 false [] (i 180 1 ∷ []) ∷
-    -- 493: FunctionBody -> LeftBrace BlockItemList? . RightBrace
-    row (e (Token (te.Is cl.RightBrace) ac.Close) 494 ∷ []) None None false None None false 491 false [] (i 180 2 ∷ []) ∷
-    -- 494: FunctionBody -> LeftBrace BlockItemList? RightBrace .
-    row [] (label ru.CompoundStatement 0) None false None None false 491 false [] (i 180 3 ∷ []) ∷
+    -- 483: FunctionDefinition -> . DeclarationSpecifiers Declarator FunctionBody
+    row (e (Node nt.DeclarationSpecifiers) 484 ∷ []) None None false None None false 483 false [] (i 178 0 ∷ []) ∷
+    -- 484: FunctionDefinition -> DeclarationSpecifiers . Declarator FunctionBody
+    row (e (Node nt.Declarator) 485 ∷ []) None None false None None false 483 false [] (i 178 1 ∷ []) ∷
+    -- 485: FunctionDefinition -> DeclarationSpecifiers Declarator . FunctionBody
+    row (e (Node nt.FunctionBody) 486 ∷ []) None None false None None false 483 false [] (i 178 2 ∷ []) ∷
+    -- 486: FunctionDefinition -> DeclarationSpecifiers Declarator FunctionBody .
+    row [] (label ru.FunctionDefinition 0) None false None None false 483 false [] (i 178 3 ∷ []) ∷
+    -- 487: FunctionBody -> . LeftBrace BlockItemList? RightBrace
+    row (e (Token (te.Is cl.LeftBrace) ac.Begin) 488 ∷ []) None None false None None false 487 false [] (i 179 0 ∷ []) ∷
+    -- 488: FunctionBody -> LeftBrace . BlockItemList? RightBrace
+    row (e (Node nt.BlockItemList) 489 ∷ e (Token (te.Is cl.RightBrace) ac.Close) 490 ∷ []) None None false None None false 487 false [] (i 179 1 ∷ []) ∷
+    -- 489: FunctionBody -> LeftBrace BlockItemList? . RightBrace
+    row (e (Token (te.Is cl.RightBrace) ac.Close) 490 ∷ []) None None false None None false 487 false [] (i 179 2 ∷ []) ∷
+    -- 490: FunctionBody -> LeftBrace BlockItemList? RightBrace .
+    row [] (label ru.CompoundStatement 0) None false None None false 487 false [] (i 179 3 ∷ []) ∷
     []
 
 unfoldable pub goals : List Goal
@@ -1220,7 +1212,7 @@ goals =
     -- JumpStatement
     record { kinds = (468 ∷ 470 ∷ 472 ∷ 475 ∷ []); openers = (465 ∷ []); suffixes = []; firsts = (cl.Goto ∷ cl.Continue ∷ cl.Break ∷ cl.Return ∷ []); goes = []; shuns = None; flat = true } ∷
     -- FunctionDefinition
-    record { kinds = (486 ∷ []); openers = (483 ∷ []); suffixes = []; firsts = (cl.TypedefName ∷ cl.TypedefColon ∷ cl.Typedef ∷ cl.Extern ∷ cl.Static ∷ cl.ThreadLocal ∷ cl.Auto ∷ cl.Register ∷ cl.Void ∷ cl.Char ∷ cl.Short ∷ cl.Int ∷ cl.Long ∷ cl.Float ∷ cl.Double ∷ cl.Signed ∷ cl.Unsigned ∷ cl.Bool ∷ cl.Struct ∷ cl.Union ∷ cl.Enum ∷ cl.Const ∷ cl.Restrict ∷ cl.Volatile ∷ cl.Atomic ∷ cl.AtomicParen ∷ cl.Inline ∷ cl.Noreturn ∷ cl.Alignas ∷ []); goes = []; shuns = None; flat = true } ∷
+    record { kinds = (486 ∷ []); openers = (483 ∷ []); suffixes = []; firsts = (cl.TypedefName ∷ cl.TypedefColon ∷ cl.Typedef ∷ cl.Extern ∷ cl.Static ∷ cl.ThreadLocal ∷ cl.Auto ∷ cl.Register ∷ cl.Void ∷ cl.Char ∷ cl.Short ∷ cl.Int ∷ cl.Long ∷ cl.Float ∷ cl.Double ∷ cl.Signed ∷ cl.Unsigned ∷ cl.Bool ∷ cl.Struct ∷ cl.Union ∷ cl.Enum ∷ cl.Const ∷ cl.Restrict ∷ cl.Volatile ∷ cl.Atomic ∷ cl.AtomicParen ∷ cl.Inline ∷ cl.Noreturn ∷ cl.Alignas ∷ []); goes = []; shuns = None; flat = false } ∷
     -- OtherSpecifier
     record { kinds = (173 ∷ 174 ∷ 175 ∷ 176 ∷ 177 ∷ 178 ∷ 237 ∷ 238 ∷ 239 ∷ 240 ∷ 242 ∷ 243 ∷ 248 ∷ 251 ∷ []); openers = (172 ∷ 236 ∷ 241 ∷ 244 ∷ []); suffixes = []; firsts = (cl.Typedef ∷ cl.Extern ∷ cl.Static ∷ cl.ThreadLocal ∷ cl.Auto ∷ cl.Register ∷ cl.Const ∷ cl.Restrict ∷ cl.Volatile ∷ cl.Atomic ∷ cl.Inline ∷ cl.Noreturn ∷ cl.Alignas ∷ []); goes = []; shuns = None; flat = true } ∷
     -- LaterTypeSpecifier
@@ -1249,10 +1241,8 @@ goals =
     record { kinds = (482 ∷ 403 ∷ []); openers = (479 ∷ 396 ∷ []); suffixes = []; firsts = (cl.TypedefName ∷ cl.StaticAssert ∷ cl.Typedef ∷ cl.Extern ∷ cl.Static ∷ cl.ThreadLocal ∷ cl.Auto ∷ cl.Register ∷ cl.Void ∷ cl.Char ∷ cl.Short ∷ cl.Int ∷ cl.Long ∷ cl.Float ∷ cl.Double ∷ cl.Signed ∷ cl.Unsigned ∷ cl.Bool ∷ cl.Struct ∷ cl.Union ∷ cl.Enum ∷ cl.Const ∷ cl.Restrict ∷ cl.Volatile ∷ cl.Atomic ∷ cl.AtomicParen ∷ cl.Inline ∷ cl.Noreturn ∷ cl.Alignas ∷ []); goes = []; shuns = None; flat = true } ∷
     -- BlockSpecifiers
     record { kinds = (164 ∷ 165 ∷ []); openers = (163 ∷ []); suffixes = []; firsts = (cl.TypedefName ∷ cl.Typedef ∷ cl.Extern ∷ cl.Static ∷ cl.ThreadLocal ∷ cl.Auto ∷ cl.Register ∷ cl.Void ∷ cl.Char ∷ cl.Short ∷ cl.Int ∷ cl.Long ∷ cl.Float ∷ cl.Double ∷ cl.Signed ∷ cl.Unsigned ∷ cl.Bool ∷ cl.Struct ∷ cl.Union ∷ cl.Enum ∷ cl.Const ∷ cl.Restrict ∷ cl.Volatile ∷ cl.Atomic ∷ cl.AtomicParen ∷ cl.Inline ∷ cl.Noreturn ∷ cl.Alignas ∷ []); goes = (cl.LeftBrace ∷ cl.Typedef ∷ cl.Extern ∷ cl.Static ∷ cl.ThreadLocal ∷ cl.Auto ∷ cl.Register ∷ cl.Void ∷ cl.Char ∷ cl.Short ∷ cl.Int ∷ cl.Long ∷ cl.Float ∷ cl.Double ∷ cl.Signed ∷ cl.Unsigned ∷ cl.Bool ∷ cl.Struct ∷ cl.Union ∷ cl.Enum ∷ cl.Const ∷ cl.Restrict ∷ cl.Volatile ∷ cl.Atomic ∷ cl.AtomicParen ∷ cl.Inline ∷ cl.Noreturn ∷ cl.Alignas ∷ []); shuns = Some te.Label; flat = true } ∷
-    -- WholeDefinition
-    record { kinds = (490 ∷ []); openers = (487 ∷ []); suffixes = []; firsts = (cl.TypedefName ∷ cl.TypedefColon ∷ cl.Typedef ∷ cl.Extern ∷ cl.Static ∷ cl.ThreadLocal ∷ cl.Auto ∷ cl.Register ∷ cl.Void ∷ cl.Char ∷ cl.Short ∷ cl.Int ∷ cl.Long ∷ cl.Float ∷ cl.Double ∷ cl.Signed ∷ cl.Unsigned ∷ cl.Bool ∷ cl.Struct ∷ cl.Union ∷ cl.Enum ∷ cl.Const ∷ cl.Restrict ∷ cl.Volatile ∷ cl.Atomic ∷ cl.AtomicParen ∷ cl.Inline ∷ cl.Noreturn ∷ cl.Alignas ∷ []); goes = []; shuns = None; flat = false } ∷
     -- FunctionBody
-    record { kinds = (494 ∷ []); openers = (491 ∷ []); suffixes = []; firsts = (cl.LeftBrace ∷ []); goes = []; shuns = None; flat = false } ∷
+    record { kinds = (490 ∷ []); openers = (487 ∷ []); suffixes = []; firsts = (cl.LeftBrace ∷ []); goes = []; shuns = None; flat = false } ∷
     []
 
 -- the tokens that begin an item of a block or what is none: all but what ends the block
@@ -1261,7 +1251,7 @@ entry_classes = cl.Ident ∷ cl.IdentColon ∷ cl.TypedefName ∷ cl.TypedefColo
 
 -- the places where the productions begin, by the numbers of these
 unfoldable pub starts : List ℕ
-starts = 1 ∷ 1 ∷ 1 ∷ 1 ∷ 8 ∷ 15 ∷ 17 ∷ 17 ∷ 24 ∷ 24 ∷ 24 ∷ 24 ∷ 24 ∷ 24 ∷ 38 ∷ 38 ∷ 47 ∷ 49 ∷ 49 ∷ 49 ∷ 49 ∷ 49 ∷ 49 ∷ 65 ∷ 65 ∷ 65 ∷ 65 ∷ 65 ∷ 65 ∷ 72 ∷ 77 ∷ 77 ∷ 77 ∷ 85 ∷ 85 ∷ 91 ∷ 91 ∷ 97 ∷ 97 ∷ 97 ∷ 97 ∷ 107 ∷ 107 ∷ 113 ∷ 117 ∷ 121 ∷ 125 ∷ 129 ∷ 133 ∷ 139 ∷ 143 ∷ 143 ∷ 143 ∷ 143 ∷ 143 ∷ 143 ∷ 143 ∷ 143 ∷ 143 ∷ 143 ∷ 143 ∷ 155 ∷ 159 ∷ 163 ∷ 163 ∷ 166 ∷ 168 ∷ 172 ∷ 172 ∷ 172 ∷ 172 ∷ 172 ∷ 172 ∷ 179 ∷ 179 ∷ 179 ∷ 179 ∷ 179 ∷ 179 ∷ 179 ∷ 179 ∷ 179 ∷ 179 ∷ 190 ∷ 190 ∷ 196 ∷ 196 ∷ 199 ∷ 201 ∷ 205 ∷ 205 ∷ 208 ∷ 210 ∷ 214 ∷ 217 ∷ 217 ∷ 217 ∷ 225 ∷ 227 ∷ 227 ∷ 231 ∷ 236 ∷ 236 ∷ 236 ∷ 236 ∷ 241 ∷ 241 ∷ 244 ∷ 244 ∷ 252 ∷ 255 ∷ 255 ∷ 260 ∷ 260 ∷ 260 ∷ 260 ∷ 260 ∷ 260 ∷ 281 ∷ 286 ∷ 286 ∷ 311 ∷ 311 ∷ 311 ∷ 311 ∷ 311 ∷ 311 ∷ 332 ∷ 332 ∷ 336 ∷ 338 ∷ 342 ∷ 344 ∷ 344 ∷ 349 ∷ 351 ∷ 281 ∷ 286 ∷ 286 ∷ 286 ∷ 286 ∷ 286 ∷ 354 ∷ 354 ∷ 354 ∷ 354 ∷ 286 ∷ 286 ∷ 354 ∷ 354 ∷ 374 ∷ 376 ∷ 376 ∷ 382 ∷ 385 ∷ 388 ∷ 390 ∷ 390 ∷ 396 ∷ 404 ∷ 404 ∷ 404 ∷ 415 ∷ 419 ∷ 421 ∷ 424 ∷ 424 ∷ 424 ∷ 437 ∷ 437 ∷ 437 ∷ 437 ∷ 465 ∷ 465 ∷ 465 ∷ 465 ∷ 476 ∷ 479 ∷ 483 ∷ 487 ∷ 491 ∷ []
+starts = 1 ∷ 1 ∷ 1 ∷ 1 ∷ 8 ∷ 15 ∷ 17 ∷ 17 ∷ 24 ∷ 24 ∷ 24 ∷ 24 ∷ 24 ∷ 24 ∷ 38 ∷ 38 ∷ 47 ∷ 49 ∷ 49 ∷ 49 ∷ 49 ∷ 49 ∷ 49 ∷ 65 ∷ 65 ∷ 65 ∷ 65 ∷ 65 ∷ 65 ∷ 72 ∷ 77 ∷ 77 ∷ 77 ∷ 85 ∷ 85 ∷ 91 ∷ 91 ∷ 97 ∷ 97 ∷ 97 ∷ 97 ∷ 107 ∷ 107 ∷ 113 ∷ 117 ∷ 121 ∷ 125 ∷ 129 ∷ 133 ∷ 139 ∷ 143 ∷ 143 ∷ 143 ∷ 143 ∷ 143 ∷ 143 ∷ 143 ∷ 143 ∷ 143 ∷ 143 ∷ 143 ∷ 155 ∷ 159 ∷ 163 ∷ 163 ∷ 166 ∷ 168 ∷ 172 ∷ 172 ∷ 172 ∷ 172 ∷ 172 ∷ 172 ∷ 179 ∷ 179 ∷ 179 ∷ 179 ∷ 179 ∷ 179 ∷ 179 ∷ 179 ∷ 179 ∷ 179 ∷ 190 ∷ 190 ∷ 196 ∷ 196 ∷ 199 ∷ 201 ∷ 205 ∷ 205 ∷ 208 ∷ 210 ∷ 214 ∷ 217 ∷ 217 ∷ 217 ∷ 225 ∷ 227 ∷ 227 ∷ 231 ∷ 236 ∷ 236 ∷ 236 ∷ 236 ∷ 241 ∷ 241 ∷ 244 ∷ 244 ∷ 252 ∷ 255 ∷ 255 ∷ 260 ∷ 260 ∷ 260 ∷ 260 ∷ 260 ∷ 260 ∷ 281 ∷ 286 ∷ 286 ∷ 311 ∷ 311 ∷ 311 ∷ 311 ∷ 311 ∷ 311 ∷ 332 ∷ 332 ∷ 336 ∷ 338 ∷ 342 ∷ 344 ∷ 344 ∷ 349 ∷ 351 ∷ 281 ∷ 286 ∷ 286 ∷ 286 ∷ 286 ∷ 286 ∷ 354 ∷ 354 ∷ 354 ∷ 354 ∷ 286 ∷ 286 ∷ 354 ∷ 354 ∷ 374 ∷ 376 ∷ 376 ∷ 382 ∷ 385 ∷ 388 ∷ 390 ∷ 390 ∷ 396 ∷ 404 ∷ 404 ∷ 404 ∷ 415 ∷ 419 ∷ 421 ∷ 424 ∷ 424 ∷ 424 ∷ 437 ∷ 437 ∷ 437 ∷ 437 ∷ 465 ∷ 465 ∷ 465 ∷ 465 ∷ 476 ∷ 479 ∷ 483 ∷ 487 ∷ []
 
 abbrev pub number : Nonterminal → ℕ
 number nt.PrimaryExpression = 0
@@ -1350,8 +1340,7 @@ number nt.BlockStatement = 82
 number nt.BlockExpressionStatement = 83
 number nt.BlockDeclaration = 84
 number nt.BlockSpecifiers = 85
-number nt.WholeDefinition = 86
-number nt.FunctionBody = 87
+number nt.FunctionBody = 86
 
 abbrev pub place_of : Option Place → Place
 place_of None = nowhere
@@ -1598,7 +1587,6 @@ first_spans =
     record { from = 689; to = 707 } ∷
     record { from = 707; to = 736 } ∷
     record { from = 736; to = 764 } ∷
-    record { from = 125; to = 154 } ∷
     record { from = 360; to = 361 } ∷
     []
 
