@@ -49,8 +49,7 @@ terminal_number te.TypeOpen = 2
 terminal_number te.Typed = 3
 terminal_number te.Label = 4
 terminal_number te.Marked = 5
-terminal_number te.Body = 6
-terminal_number (te.Is k) = suc (suc (suc (suc (suc (suc (suc (class_number k)))))))
+terminal_number (te.Is k) = suc (suc (suc (suc (suc (suc (class_number k))))))
 
 abbrev terminal_of : ℕ → Option Terminal
 terminal_of zero = Some te.Name
@@ -59,8 +58,7 @@ terminal_of (suc (suc zero)) = Some te.TypeOpen
 terminal_of (suc (suc (suc zero))) = Some te.Typed
 terminal_of (suc (suc (suc (suc zero)))) = Some te.Label
 terminal_of (suc (suc (suc (suc (suc zero))))) = Some te.Marked
-terminal_of (suc (suc (suc (suc (suc (suc zero)))))) = Some te.Body
-terminal_of (suc (suc (suc (suc (suc (suc (suc n))))))) = option_map te.Is (slice_get all_classes n)
+terminal_of (suc (suc (suc (suc (suc (suc n)))))) = option_map te.Is (slice_get all_classes n)
 
 numbered_terminal : (t : Terminal) → terminal_of (terminal_number t) ≡ Some t
 numbered_terminal te.Name = refl
@@ -69,7 +67,6 @@ numbered_terminal te.TypeOpen = refl
 numbered_terminal te.Typed = refl
 numbered_terminal te.Label = refl
 numbered_terminal te.Marked = refl
-numbered_terminal te.Body = refl
 numbered_terminal (te.Is k) = ap (option_map te.Is) (numbered_class k)
 
 same_terminal : (t u : Terminal) → terminal_number t ≡ terminal_number u → t ≡ u
@@ -462,7 +459,7 @@ home_first z i has = elim (either z) [
 module _ (cs : List Lexeme) (h : ℕ) (f : (g : Nonterminal) (z : ℕ) (sa : Scope) (t : Tree) (sw : Scope) → At cs h g z sa t sw → Derived cs h g sa t sw)
     (b : (g : Nonterminal) (sa : Scope) (t : Tree) (sw : Scope) → Derived cs h g sa t sw → (z : ℕ) × At cs h g z sa t sw) where
   same_reads : (s : Symbol) (y : ℕ) (sa : Scope) (at : ℕ) (t : Tree) (sw : Scope) → p.Reads (At cs h) h cs s y sa at t sw → d.Reads (Derived cs h) h cs s sa at t sw
-  same_reads (Token k a) y sa at t sw r = (r.1, r.2, r.3, r.4, r.5)
+  same_reads (Token k a) y sa at t sw r = (r.1, r.2, r.3, r.4)
   same_reads (Node g) y sa at t sw r = (f g y sa t sw r.0, r.1)
   same_reads Entry y sa at t sw (inl r) = inl (f nt.BlockItem y sa t sw r.0, r.1)
   same_reads Entry y sa at t sw (inr r) = inr (r.1, r.2, r.3, r.4, λ u v d e. (let o = b nt.BlockItem sa u v d in r.5 u o.0 v o.1 e))
@@ -574,7 +571,7 @@ record Through (D : Nonterminal → ℕ → Scope → Tree → Scope → Type 0)
 module _ (cs : List Lexeme) (h : ℕ) (b : (g : Nonterminal) (z : ℕ) (sa : Scope) (t : Tree) (sw : Scope) → At cs h g z sa t sw → Derived cs h g sa t sw)
     (f : (g : Nonterminal) (sa : Scope) (t : Tree) (sw : Scope) → Derived cs h g sa t sw → (z : ℕ) × At cs h g z sa t sw) where
   reads_back : (x : Symbol) (sa : Scope) (at : ℕ) (t : Tree) (sw : Scope) → d.Reads (Derived cs h) h cs x sa at t sw → (y : ℕ) × Way x y × p.Reads (At cs h) h cs x y sa at t sw
-  reads_back (Token k a) sa at t sw r = (0, refl, (refl, r.0, r.1, r.2, r.3, r.4))
+  reads_back (Token k a) sa at t sw r = (0, refl, (refl, r.0, r.1, r.2, r.3))
   reads_back (Node g) sa at t sw r = (let o = f g sa t sw r.0 in (o.0, o.1.0, (o.1, r.1)))
   reads_back Entry sa at t sw (inl r) = (let o = f nt.BlockItem sa t sw r.0 in (o.0, tt, inl (o.1, r.1)))
   reads_back Entry sa at t sw (inr r) = (0, tt, inr (refl, r.0, r.1, r.2, r.3, λ u z v a e. r.4 u v (b nt.BlockItem z sa u v a) e))

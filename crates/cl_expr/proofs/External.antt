@@ -1,18 +1,17 @@
 -- The last token of a declaration, and of a function definition.
-use Rattle.std.proofs.Common.{◌≡◌, ℕ, zero, suc, ◌+◌, ◌-◌, List, [], ◌∷◌, inl, inr, arith, refl, sym, ◌∙◌, ap, subst, length, Bool, true, false, not, ◌&&◌, ◌||◌}
+use Rattle.std.proofs.Common.{◌≡◌, ℕ, zero, suc, ◌+◌, ◌-◌, List, [], ◌∷◌, inl, inr, arith, refl, sym, ◌∙◌, ap, subst, length, Bool, true, false, ◌||◌}
 use Rattle.std.specs.Prelude.{Option, Some, None, slice_get, Result, Ok, Err, IfOk, IfSome}
 use Rattle.cl_base.specs.declared.memory.Memory.{Memory}
 use Rattle.cl_expr.specs.declared.expression.Parsed.{Parsed}
 use Rattle.cl_expr.proofs.Law.{one_whole}
 use Rattle.std.proofs.Math.Dec.{eqb}
-use Rattle.std.proofs.lemmas.Bool.{eqb-true, and_parts, false≢true}
+use Rattle.std.proofs.lemmas.Bool.{eqb-true, false≢true}
 use Rattle.cl_tree.specs.declared.class.Class.{Class}
 use Rattle.cl_tree.specs.declared.class.Class.TheVariants as cl
 use Rattle.cl_tree.specs.declared.shape.Shape.{Shape}
 use Rattle.cl_tree.specs.declared.shape.Shape.TheVariants.{Fixed, Word, Paren}
 use Rattle.cl_tree.specs.declared.nonterminal.Nonterminal.{Nonterminal}
 use Rattle.cl_tree.specs.declared.nonterminal.Nonterminal.TheVariants as nt
-use Rattle.cl_tree.specs.declared.grammar.Terminal.{Terminal}
 use Rattle.cl_tree.specs.declared.grammar.Symbol.{Symbol}
 use Rattle.cl_tree.specs.declared.grammar.Symbol.TheVariants.{Token, Node, Entry}
 use Rattle.cl_tree.specs.declared.grammar.Separator.{Separator}
@@ -21,14 +20,14 @@ use Rattle.cl_tree.specs.declared.lexeme.Lexeme.{Lexeme}
 use Rattle.cl_tree.specs.declared.scope.Scope.{Scope}
 use Rattle.cl_tree.specs.Scopes.{class_at, class_of, class_by, word_class, paren_class, known, typed_at, pass}
 use Rattle.cl_tree.specs.Grammar.{takes}
-use Rattle.cl_tree.specs.Derives.{Has, start, end, parts, piece, last_token, is_body, SpansFrom, External}
+use Rattle.cl_tree.specs.Derives.{Has, start, end, parts, leaf, SpansFrom, External}
 use Rattle.cl_expr.specs.declared.table.Edge.{Edge}
-use Rattle.cl_expr.specs.code.Table.{places, place, edges, turning, turn, home, kinds, goal, goals, name_of}
+use Rattle.cl_expr.specs.code.Table.{places, place, edges, turning, turn, home, kinds, goal, goals, name_of, number}
 use Rattle.cl_expr.specs.code.Paths.{name, Ended, Reads, ReadsAfter, Path, Kind, At}
-use Rattle.cl_expr.proofs.All.{class_number, same_class_is}
-use Rattle.cl_expr.proofs.Checks.{every, when, not_false, when_use, none_not, some_is, every_has, has_member}
+use Rattle.cl_expr.proofs.All.{class_number, same_class_is, same_goal_is}
+use Rattle.cl_expr.proofs.Checks.{every, when, when_use, none_not, some_is, every_has, has_member}
 use Rattle.cl_expr.proofs.Conditions.{every_place, steps, steps_use, kind_in, place_number, no_name}
-use Rattle.cl_expr.proofs.Heights.{kind_of, kind_flat, end_piece}
+use Rattle.cl_expr.proofs.Heights.{kind_of, kind_flat, end_leaf}
 use Rattle.cl_expr.proofs.Bridge.{of_derives, in_edges}
 
 -- whether a class may depend on the names that are declared
@@ -67,30 +66,31 @@ same_class ts s w i k plain e = go (slice_get ts i) e
     go None e = absurd (none_not e)
     go (Some l) e = shape l l.shape e
 
--- the last parts of declarations and of function definitions
-abbrev ends_semicolon : Symbol → Bool
-ends_semicolon (Token c a) = every (λ k. eqb (class_number k) (class_number cl.Semicolon)) (takes c) && not (is_body c)
-ends_semicolon (Node g) = false
-ends_semicolon Entry = false
+-- the last parts of declarations, of function definitions and of their bodies
+abbrev is_token : Class → Symbol → Bool
+is_token k (Token c a) = every (λ v. eqb (class_number v) (class_number k)) (takes c)
+is_token k (Node g) = false
+is_token k Entry = false
 
-abbrev ends_body : Symbol → Bool
-ends_body (Token c a) = is_body c
-ends_body (Node g) = false
-ends_body Entry = false
+abbrev is_node : Nonterminal → Symbol → Bool
+is_node g (Token c a) = false
+is_node g (Node f) = eqb (number f) (number g)
+is_node g Entry = false
 
-abbrev c_semicolon : ℕ → Bool
-c_semicolon q = steps (λ e n. when (kind_in n (kinds nt.Declaration)) (ends_semicolon e.symbol)) q
+abbrev c_last : Nonterminal → (Symbol → Bool) → ℕ → Bool
+c_last g ok q = steps (λ e n. when (kind_in n (kinds g)) (ok e.symbol)) q
 
-abbrev c_body : ℕ → Bool
-c_body q = steps (λ e n. when (kind_in n (kinds nt.FunctionDefinition)) (ends_body e.symbol)) q
-
-places_semicolon : every_place c_semicolon ≡ true
+places_semicolon : every_place (c_last nt.Declaration (is_token cl.Semicolon)) ≡ true
 unfolding places place edges turning kinds goal goals
 places_semicolon = refl
 
-places_body : every_place c_body ≡ true
+places_body : every_place (c_last nt.FunctionDefinition (is_node nt.FunctionBody)) ≡ true
 unfolding places place edges turning kinds goal goals
 places_body = refl
+
+places_brace : every_place (c_last nt.FunctionBody (is_token cl.RightBrace)) ≡ true
+unfolding places place edges turning kinds goal goals
+places_brace = refl
 
 -- the last part of a node
 record Last (cs : List Lexeme) (h to : ℕ) (ok : Symbol → Bool) : Type 0 where
@@ -122,59 +122,57 @@ module _ (cs : List Lexeme) (h : ℕ) (ok : Symbol → Bool) (z : ℕ) (f : (q :
       go v [] ended p = absurd (no_name z (name t) (subst (λ (q : ℕ). name_of q ≡ Some (name t)) (sym p.1) ended.0))
       go v (p ∷ ps) ended path = path_last ps p (home z) s (start t) (end t) v path
 
-piece_end : (cs : List Lexeme) (c : Terminal) (at to : ℕ) (p : Tree) → p ≡ piece cs c at → end p ≡ to → to - 1 ≡ last_token cs c at
-piece_end cs c at to p is e = let x : to ≡ last_token cs c at + 1 = sym e ∙ ap end is ∙ end_piece cs c at in omega (arith, x)
+leaf_last : (at to : ℕ) (p : Tree) → p ≡ leaf at → end p ≡ to → to - 1 ≡ at
+leaf_last at to p is e = let x : to ≡ at + 1 = sym e ∙ ap end is ∙ end_leaf at in omega (arith, x)
 
-semicolon_of : (cs : List Lexeme) (h to : ℕ) (s : Scope) → Last cs h to ends_semicolon → class_at cs s (to - 1) ≡ Some cl.Semicolon
-semicolon_of cs h to s l = go l.symbol l.fine l.reads
+token_of : (cs : List Lexeme) (h to : ℕ) (k : Class) (s : Scope) → depends k ≡ false → Last cs h to (is_token k) → class_at cs s (to - 1) ≡ Some k
+token_of cs h to k s plain l = go l.symbol l.fine l.reads
   where
-    go : (x : Symbol) → ends_semicolon x ≡ true → Reads (At cs h) h cs x l.kind l.before l.at l.tree l.after → class_at cs s (to - 1) ≡ Some cl.Semicolon
+    go : (x : Symbol) → is_token k x ≡ true → Reads (At cs h) h cs x l.kind l.before l.at l.tree l.after → class_at cs s (to - 1) ≡ Some k
     go (Node g) t r = absurd (false≢true t)
     go Entry t r = absurd (false≢true t)
     go (Token c a) t r =
-        let q = and_parts (every (λ v. eqb (class_number v) (class_number cl.Semicolon)) (takes c)) (not (is_body c)) t in
-        let k = r.3.0 in
-        let plain : is_body c ≡ false = not_false (is_body c) q.1 in
-        let same : k ≡ cl.Semicolon = same_class_is k cl.Semicolon (eqb-true (class_number k) (class_number cl.Semicolon)
-        (every_has (λ v. eqb (class_number v) (class_number cl.Semicolon)) (takes c) q.0 k r.3.2)) in
-        let last_is : last_token cs c l.at ≡ l.at = rw plain refl in
-        let there : to - 1 ≡ l.at = piece_end cs c l.at to l.tree r.2 l.ends ∙ last_is in
-        let token : class_at cs l.before l.at ≡ Some cl.Semicolon = subst (λ (v : Class). class_at cs l.before l.at ≡ Some v) same r.3.1 in
-        subst (λ (i : ℕ). class_at cs s i ≡ Some cl.Semicolon) (sym there) (same_class cs l.before s l.at cl.Semicolon refl token)
+        let same : r.3.0 ≡ k = same_class_is r.3.0 k (eqb-true (class_number r.3.0) (class_number k)
+        (every_has (λ v. eqb (class_number v) (class_number k)) (takes c) t r.3.0 r.3.2)) in
+        let token : class_at cs l.before l.at ≡ Some k = subst (λ (v : Class). class_at cs l.before l.at ≡ Some v) same r.3.1 in
+        subst (λ (i : ℕ). class_at cs s i ≡ Some k) (sym (leaf_last l.at to l.tree r.2 l.ends)) (same_class cs l.before s l.at k plain token)
 
-brace_of : (cs : List Lexeme) (h to : ℕ) (s : Scope) → Last cs h to ends_body → class_at cs s (to - 1) ≡ Some cl.RightBrace
-brace_of cs h to s l = go l.symbol l.fine l.reads
-  where
-    go : (x : Symbol) → ends_body x ≡ true → Reads (At cs h) h cs x l.kind l.before l.at l.tree l.after → class_at cs s (to - 1) ≡ Some cl.RightBrace
-    go (Node g) t r = absurd (false≢true t)
-    go Entry t r = absurd (false≢true t)
-    go (Token c a) t r =
-        let there : to - 1 ≡ last_token cs c l.at = piece_end cs c l.at to l.tree r.2 l.ends in
-        subst (λ (i : ℕ). class_at cs s i ≡ Some cl.RightBrace) (sym there) (same_class cs l.before s (last_token cs c l.at) cl.RightBrace refl (r.5 t).1)
-
-edge_of : (g : Nonterminal) (ok : Symbol → Bool) → every_place (λ q. steps (λ e n. when (kind_in n (kinds g)) (ok e.symbol)) q) ≡ true
+edge_of : (g : Nonterminal) (ok : Symbol → Bool) → every_place (c_last g ok) ≡ true
     → (z : ℕ) → Has (kinds g) z → (q : ℕ) (e : Edge) (y : ℕ) → Has (edges q) e → turn e.next y ≡ z → ok e.symbol ≡ true
 edge_of g ok t z kind q e y has goes =
-    let u = steps_use (λ e n. when (kind_in n (kinds g)) (ok e.symbol)) q (in_edges (λ q. steps (λ e n. when (kind_in n (kinds g)) (ok e.symbol)) q) t q e has) e y has in
+    let u = steps_use (λ e n. when (kind_in n (kinds g)) (ok e.symbol)) q (in_edges (c_last g ok) t q e has) e y has in
     let inside : kind_in (turn e.next y) (kinds g) ≡ true = subst (λ (v : ℕ). kind_in v (kinds g) ≡ true) (sym goes) (has_member place_number z (kinds g) kind.0 kind.1) in
     when_use (kind_in (turn e.next y) (kinds g)) (ok e.symbol) u inside
 
-last_of : (cs : List Lexeme) (g : Nonterminal) (ok : Symbol → Bool) → every_place (λ q. steps (λ e n. when (kind_in n (kinds g)) (ok e.symbol)) q) ≡ true → (h : ℕ) (z : ℕ) (s : Scope) (t : Tree) (w : Scope)
+last_of : (cs : List Lexeme) (g : Nonterminal) (ok : Symbol → Bool) → every_place (c_last g ok) ≡ true → (h : ℕ) (z : ℕ) (s : Scope) (t : Tree) (w : Scope)
     → At cs h g z s t w → (k : ℕ) × Last cs k (end t) ok
 last_of cs g ok c zero z s t w a = absurd (kind_flat cs z s t w a.1)
 last_of cs g ok c (suc h) z s t w a = (h, kind_last cs h ok z (edge_of g ok c z a.0) s t w a.1)
 
+-- a body ends with `}`, and with it what ends with a body
+body_of : (cs : List Lexeme) (h to : ℕ) (s : Scope) → Last cs h to (is_node nt.FunctionBody) → class_at cs s (to - 1) ≡ Some cl.RightBrace
+body_of cs h to s l = go l.symbol l.fine l.reads
+  where
+    go : (x : Symbol) → is_node nt.FunctionBody x ≡ true → Reads (At cs h) h cs x l.kind l.before l.at l.tree l.after → class_at cs s (to - 1) ≡ Some cl.RightBrace
+    go (Token c a) t r = absurd (false≢true t)
+    go Entry t r = absurd (false≢true t)
+    go (Node g) t r =
+        let body : At cs h nt.FunctionBody l.kind l.before l.tree l.after
+        = subst (λ (f : Nonterminal). At cs h f l.kind l.before l.tree l.after) (same_goal_is g nt.FunctionBody (eqb-true (number g) (number nt.FunctionBody) t)) r.0 in
+        let o = last_of cs nt.FunctionBody (is_token cl.RightBrace) places_brace h l.kind l.before l.tree l.after body in
+        subst (λ (i : ℕ). class_at cs s (i - 1) ≡ Some cl.RightBrace) l.ends (token_of cs o.0 (end l.tree) cl.RightBrace s refl o.1)
+
 pub declaration_ends : (cs : List Lexeme) (s : Scope) (at : ℕ) (t : Tree) (w v : Scope) → SpansFrom nt.Declaration cs s at t w → class_at cs v (length cs - 1) ≡ Some cl.Semicolon
 declaration_ends cs s at t w v d =
     let o = of_derives nt.Declaration cs s at t w d in
-    let l = last_of cs nt.Declaration ends_semicolon places_semicolon 512 o.kind s t w o.at in
-    subst (λ (i : ℕ). class_at cs v (i - 1) ≡ Some cl.Semicolon) o.to (semicolon_of cs l.0 (end t) v l.1)
+    let l = last_of cs nt.Declaration (is_token cl.Semicolon) places_semicolon 512 o.kind s t w o.at in
+    subst (λ (i : ℕ). class_at cs v (i - 1) ≡ Some cl.Semicolon) o.to (token_of cs l.0 (end t) cl.Semicolon v refl l.1)
 
 pub definition_ends : (cs : List Lexeme) (s : Scope) (at : ℕ) (t : Tree) (w v : Scope) → SpansFrom nt.FunctionDefinition cs s at t w → class_at cs v (length cs - 1) ≡ Some cl.RightBrace
 definition_ends cs s at t w v d =
     let o = of_derives nt.FunctionDefinition cs s at t w d in
-    let l = last_of cs nt.FunctionDefinition ends_body places_body 512 o.kind s t w o.at in
-    subst (λ (i : ℕ). class_at cs v (i - 1) ≡ Some cl.RightBrace) o.to (brace_of cs l.0 (end t) v l.1)
+    let l = last_of cs nt.FunctionDefinition (is_node nt.FunctionBody) places_body 512 o.kind s t w o.at in
+    subst (λ (i : ℕ). class_at cs v (i - 1) ≡ Some cl.RightBrace) o.to (body_of cs l.0 (end t) v l.1)
 
 semicolon_not_brace : Some cl.Semicolon ≡ Some cl.RightBrace → ⊥
 semicolon_not_brace e = cc

@@ -8,14 +8,13 @@ use Rattle.cl_tree.specs.declared.grammar.Symbol.{Symbol}
 use Rattle.cl_tree.specs.declared.grammar.Symbol.TheVariants.{Token, Node, Entry}
 use Rattle.cl_tree.specs.declared.nonterminal.Nonterminal.TheVariants as nt
 use Rattle.cl_tree.specs.declared.grammar.Separator.{Separator}
-use Rattle.cl_tree.specs.declared.grammar.Terminal.{Terminal}
 use Rattle.cl_expr.specs.declared.table.Label.{Label}
 use Rattle.cl_tree.specs.declared.tree.Tree.{Tree, Tree-F, out-roll-Tree, roll-out-Tree}
 use Rattle.cl_tree.specs.declared.lexeme.Lexeme.{Lexeme}
 use Rattle.cl_tree.specs.declared.scope.Scope.{Scope}
 use Rattle.cl_tree.specs.Scopes.{class_at, pass, leave}
 use Rattle.cl_expr.specs.code.Table.{name_of, scoped, flat, turn, home, kinds, firsts}
-use Rattle.cl_tree.specs.Derives.{Has, start, end, parts, piece, last_token, Opened, bad}
+use Rattle.cl_tree.specs.Derives.{Has, start, end, parts, leaf, Opened, bad}
 use Rattle.cl_expr.specs.code.Paths.{name, node, Ended, Reads, ReadsAfter, Path, Kind, At}
 use Rattle.cl_expr.specs.code.Parses.{AllOf, Tall, BeginsSymbol, Begins, Enters}
 use Rattle.cl_expr.proofs.Conditions.{no_name, firsts_have, symbol_flat, flat_kind, flat_edge, entry_class, firsts_entry}
@@ -40,14 +39,14 @@ pub kind_flat : (cs : List Lexeme) (z : ℕ) (sa : Scope) (t : Tree) (sw : Scope
 unfolding Kind
 kind_flat cs z sa t sw a = a
 
-pub end_piece : (cs : List Lexeme) (c : Terminal) (at : ℕ) → end (piece cs c at) ≡ last_token cs c at + 1
-end_piece cs c at = ap (λ x. x.to) (out-roll-Tree (record { rule = _; choice = 0; from = at; to = last_token cs c at + 1; parts = [] }))
+pub end_leaf : (at : ℕ) → end (leaf at) ≡ at + 1
+end_leaf at = ap (λ x. x.to) (out-roll-Tree (record { rule = _; choice = 0; from = at; to = at + 1; parts = [] }))
 
 -- a tree of a kind is no higher than its bound
-pub tall_piece : (cs : List Lexeme) (c : Terminal) (h at : ℕ) → 1 ≤ h → Tall h (piece cs c at)
+pub tall_leaf : (h at : ℕ) → 1 ≤ h → Tall h (leaf at)
 unfolding Tall
-tall_piece cs c zero at l = absurd (omega arith)
-tall_piece cs c (suc h) at l = subst (λ (x : Tree-F Tree). AllOf (Tall h) x.parts) (sym (out-roll-Tree (record { rule = _; choice = 0; from = at; to = last_token cs c at + 1; parts = [] }))) tt
+tall_leaf zero at l = absurd (omega arith)
+tall_leaf (suc h) at l = subst (λ (x : Tree-F Tree). AllOf (Tall h) x.parts) (sym (out-roll-Tree (record { rule = _; choice = 0; from = at; to = at + 1; parts = [] }))) tt
 
 pub end_bad : (from to : ℕ) → end (bad from to) ≡ to
 end_bad from to = ap (λ x. x.to) (out-roll-Tree (record { rule = _; choice = 0; from = from; to = to; parts = [] }))
@@ -59,7 +58,7 @@ tall_bad (suc h) from to l = subst (λ (x : Tree-F Tree). AllOf (Tall h) x.parts
 
 module _ (cs : List Lexeme) (h : ℕ) (f : (y : ℕ) (s' : Scope) (p : Tree) (w' : Scope) → Kind cs h y s' p w' → Tall h p) where
   tall_one : (x : Symbol) (y : ℕ) (s' : Scope) (at : ℕ) (p : Tree) (w' : Scope) → Reads (At cs h) h cs x y s' at p w' → Tall h p
-  tall_one (Token c a) y s' at p w' r = subst (Tall h) (sym r.2) (tall_piece cs c h at r.1)
+  tall_one (Token c a) y s' at p w' r = subst (Tall h) (sym r.2) (tall_leaf h at r.1)
   tall_one (Node g) y s' at p w' r = f y s' p w' r.0.1
   tall_one Entry y s' at p w' (inl r) = f y s' p w' r.0.1
   tall_one Entry y s' at p w' (inr r) = subst (Tall h) (sym r.2) (tall_bad h at _ r.1)
@@ -112,7 +111,7 @@ all_tall_le h k ts le a = all_map ts (λ p x. tall_le h k p le x) a
 -- what holds no block derives by any bound that isn't below its height
 module _ (cs : List Lexeme) (h k : ℕ) (f : (y : ℕ) (sa : Scope) (p : Tree) (sw : Scope) → flat (home y) ≡ true → Tall k p → Kind cs h y sa p sw → Kind cs k y sa p sw) where
   reads_fit : (x : Symbol) (y : ℕ) (sa : Scope) (at : ℕ) (p : Tree) (sw : Scope) → symbol_flat x ≡ true → Tall k p → Reads (At cs h) h cs x y sa at p sw → Reads (At cs k) k cs x y sa at p sw
-  reads_fit (Token c a) y sa at p sw is tall r = (r.0, tall_some k p tall, r.2, r.3, r.4, r.5)
+  reads_fit (Token c a) y sa at p sw is tall r = (r.0, tall_some k p tall, r.2, r.3, r.4)
   reads_fit Entry y sa at p sw is tall r = absurd (false≢true is)
   reads_fit (Node g) y sa at p sw is tall r = ((r.0.0, f y sa p sw (flat_kind g y is r.0.0) tall r.0.1, r.0.2), r.1)
 

@@ -1,6 +1,6 @@
 -- Reading the parts of a production.
 use Rattle.std.proofs.Common.{◌≡◌, ℕ, zero, suc, ◌+◌, ◌≤◌, ◌<◌, List, [], ◌∷◌, ◌++◌, ◌⊎◌, inl, inr, arith, refl, sym, ◌∙◌, ap, subst, append_assoc, append-nil, length, max}
-use Rattle.std.specs.Prelude.{Option, Some, None, slice_get}
+use Rattle.std.specs.Prelude.{Option, Some, None}
 use Rattle.cl_tree.specs.declared.class.Class.{Class}
 use Rattle.cl_tree.specs.declared.class.Class.TheVariants as cl
 use Rattle.std.specs.Prelude.{true, false}
@@ -22,13 +22,13 @@ use Rattle.cl_tree.specs.declared.grammar.Terminal.{Terminal}
 use Rattle.cl_tree.specs.declared.grammar.Act.{Act}
 use Rattle.cl_expr.proofs.Within.{class_within}
 use Rattle.cl_expr.specs.code.Table.{edges, name_of, bars, scoped, turn, home, corner}
-use Rattle.cl_tree.specs.Derives.{Has, start, end, parts, leaf, hole, piece, last_token, is_body, Closed, Opened, bad}
-use Rattle.cl_tree.specs.BadItems.{partner_of, closes_at, bad_end}
+use Rattle.cl_tree.specs.Derives.{Has, start, end, parts, leaf, Opened, bad}
+use Rattle.cl_tree.specs.BadItems.{closes_at, bad_end}
 use Rattle.cl_expr.specs.code.Paths.{name, node, Ended, Reads, ReadsAfter, Path, At}
 use Rattle.cl_expr.specs.code.Parses.{AllOf, Tall, Begins, Enters, Halts, StopsSymbol, Parses, SoundPart, Part, Half, Builds}
 use Rattle.cl_expr.proofs.Checks.{some_is}
 use Rattle.cl_expr.proofs.Conditions.{Way, one_edge, more, on, held, shut, home_next, plain_next, entry_open, firsts_entry, entry_stops}
-use Rattle.cl_expr.proofs.Heights.{of_kind, tall_le, all_tall_le, tall_piece, tall_bad, end_bad, first_class, kind_flat, of_parts, path_enters, reads_first, end_piece, tall_zero, tall_parts}
+use Rattle.cl_expr.proofs.Heights.{of_kind, tall_le, all_tall_le, tall_leaf, tall_bad, end_bad, first_class, kind_flat, of_parts, path_enters, reads_first, end_leaf, tall_zero, tall_parts}
 
 none_not : {X : Type 0} {x : X} → None ≡ Some x → ⊥
 none_not e = cc
@@ -54,55 +54,25 @@ pub way_of : (cs : List Lexeme) (h : ℕ) (b : Option Separator) (x : Symbol) (y
 way_of cs h None x y sa at p sw r = reads_way cs h x y sa at p sw r
 way_of cs h (Some b) x y sa at p sw r = reads_way cs h x y (pass cs sa b.act at) (at + 1) p sw r.1
 
-pub part_piece : (cs : List Lexeme) (h : ℕ) (sa : Scope) (c : Terminal) (a : Act) (k : Class) (at : ℕ) → class_at cs sa at ≡ Some k → Has (takes c) k → 1 ≤ h → Closed cs sa c at
-    → at ≤ last_token cs c at → last_token cs c at < length cs → Part cs h sa None (Token c a) at (Some (record { tree = piece cs c at; place = 0; scope = pass cs sa a at; height = 1 }))
-part_piece cs h sa c a k at token has some closed above within = record {
-  found = record {
-    reads = (refl, some, refl, (k, token, has), refl, closed);
-    grows = rw (end_piece cs c at) (omega arith);
-    within = rw (end_piece cs c at) (omega arith);
-    tall = tall_piece cs c 1 at (omega arith);
-    least = one;
-    high = some;
-  };
-  only = λ p y w r s. (sym r.2, sym r.0, sym r.4);
-}
-  where
-    one : (k : ℕ) → Tall k (piece cs c at) → 1 ≤ k
-    one zero a = absurd (tall_zero (piece cs c at) a)
-    one (suc k) a = omega arith
-
-pub leaf_is : (cs : List Lexeme) (c : Terminal) (at : ℕ) → is_body c ≡ false → leaf at ≡ piece cs c at
-leaf_is cs c at plain = rw plain refl
-
-pub part_leaf : (cs : List Lexeme) (h : ℕ) (sa : Scope) (c : Terminal) (a : Act) (k : Class) (at : ℕ) → is_body c ≡ false → class_at cs sa at ≡ Some k → Has (takes c) k → 1 ≤ h
+pub part_leaf : (cs : List Lexeme) (h : ℕ) (sa : Scope) (c : Terminal) (a : Act) (k : Class) (at : ℕ) → class_at cs sa at ≡ Some k → Has (takes c) k → 1 ≤ h
     → Part cs h sa None (Token c a) at (Some (record { tree = leaf at; place = 0; scope = pass cs sa a at; height = 1 }))
-part_leaf cs h sa c a k at plain token has some =
-    let within = class_within cs sa at k token in
-    let last_is : last_token cs c at ≡ at = rw plain refl in
-    subst (λ (t : Tree). Part cs h sa None (Token c a) at (Some (record { tree = t; place = 0; scope = pass cs sa a at; height = 1 }))) (sym (leaf_is cs c at plain))
-    (part_piece cs h sa c a k at token has some (λ body. absurd (false≢true (sym plain ∙ body))) (omega (arith, last_is)) (omega (arith, last_is, within)))
-
-module _ (cs : List Lexeme) (h : ℕ) (sa : Scope) (c : Terminal) (a : Act) where
-  pub part_body : (k : Class) (at last : ℕ) → is_body c ≡ true → partner_of (slice_get cs at) ≡ last → class_at cs sa at ≡ Some k → Has (takes c) k → 1 ≤ h → at + 1 ≤ last
-      → class_at cs sa last ≡ Some cl.RightBrace → Part cs h sa None (Token c a) at (Some (record { tree = hole at (last + 1); place = 0; scope = pass cs sa a at; height = 1 }))
-  part_body k at last body partner token has some above brace =
-      let within = class_within cs sa last cl.RightBrace brace in
-      let last_is : last_token cs c at ≡ last = rw body partner in
-      let same : piece cs c at ≡ hole at (last + 1) = rw (body, partner) refl in
-      subst (λ (t : Tree). Part cs h sa None (Token c a) at (Some (record { tree = t; place = 0; scope = pass cs sa a at; height = 1 }))) same
-      (part_piece cs h sa c a k at token has some (λ e. rw last_is (above, brace)) (omega (arith, last_is)) (omega (arith, last_is, within)))
-
-  pub part_open : (at last : ℕ) → is_body c ≡ true → partner_of (slice_get cs at) ≡ last → ((at + 1 ≤ last) × (class_at cs sa last ≡ Some cl.RightBrace) → ⊥) → Part cs h sa None (Token c a) at None
-  part_open at last body partner not =
-      let last_is : last_token cs c at ≡ last = rw body partner in
-      record { found = tt; only = λ t y w r s. absurd (not (rw last_is at (r.5 body))) }
-
-  pub part_low : (at last : ℕ) → is_body c ≡ true → partner_of (slice_get cs at) ≡ last → last ≤ at → Part cs h sa None (Token c a) at None
-  part_low at last body partner low = part_open at last body partner (λ r. (let u : at + 1 ≤ last = r.0 in absurd (omega arith)))
-
-  pub part_unshut : (at last : ℕ) → is_body c ≡ true → partner_of (slice_get cs at) ≡ last → (class_at cs sa last ≡ Some cl.RightBrace → ⊥) → Part cs h sa None (Token c a) at None
-  part_unshut at last body partner not = part_open at last body partner (λ r. not r.1)
+part_leaf cs h sa c a k at token has some =
+    let inside = class_within cs sa at k token in
+    record {
+      found = record {
+        reads = (refl, some, refl, (k, token, has), refl);
+        grows = rw (end_leaf at) (omega arith);
+        within = rw (end_leaf at) (omega (arith, inside));
+        tall = tall_leaf 1 at (omega arith);
+        least = one;
+        high = some;
+      };
+      only = λ p y w r s. (sym r.2, sym r.0, sym r.4);
+    }
+  where
+    one : (k : ℕ) → Tall k (leaf at) → 1 ≤ k
+    one zero a = absurd (tall_zero (leaf at) a)
+    one (suc k) a = omega arith
 
 pub part_node : (cs : List Lexeme) (h : ℕ) (sa : Scope) (g : Nonterminal) (at : ℕ) (o : Option Found) → Parses cs h sa g at o → Part cs h sa None (Node g) at o
 part_node cs h sa g at None p = record { found = tt; only = λ t y w r s. p.only t y w r.0 r.1 s }

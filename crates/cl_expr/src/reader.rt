@@ -2,7 +2,7 @@
 
 ghost use Rattle.std.specs.Prelude.{◌≡◌, ◌<◌, ◌≤◌, ◌+◌, ◌-◌, ◌^◌, Some, None, true, false, IfOk, IfSome, length, slice_get, max, suc, [], ◌∷◌};
 ghost use Rattle.cl_tree.specs.Scopes as n;
-ghost use Rattle.cl_tree.specs.Derives.{Has, start, end, leaf, hole, bad, is_body as body};
+ghost use Rattle.cl_tree.specs.Derives.{Has, start, end, leaf, bad};
 ghost use Rattle.cl_tree.specs.declared.class.Class.{Class};
 ghost use Rattle.cl_tree.specs.declared.class.Class.TheVariants as cl;
 ghost use Rattle.cl_tree.specs.declared.nonterminal.Nonterminal.TheVariants as nt;
@@ -11,9 +11,7 @@ ghost use Rattle.cl_expr.specs.code.Table as t;
 ghost use Rattle.cl_expr.specs.code.Parses.{Parses, Nests, Part, Half, Builds, Opens, Steps, Climbs, GoesOn, Sound, Begins, Enters};
 
 use crate::places::{bar, corner, is_scoped, kinds, name_of, turn};
-use crate::scan::{
-    going, has_place, is_body, is_brace, is_shunned, look, opening, partner_at, same_class, taken,
-};
+use crate::scan::{going, has_place, is_shunned, look, opening, same_class, taken};
 use crate::table::Edge;
 use cl_base::{List, Mem};
 use cl_tree::{
@@ -46,19 +44,6 @@ fn token_leaf(alloc: Global, at: u32) -> Tree
         choice: 0,
         from: at,
         to: at + 1,
-        parts: List::new(alloc),
-    }
-}
-
-fn hole_tree(alloc: Global, from: u32, last: u32) -> Tree
-    requires { last < 2 ^ 32 - 1 }
-    ensures { result ≡ hole from (last + 1) }
-{
-    Tree {
-        rule: Rule::Hole,
-        choice: 0,
-        from,
-        to: last + 1,
         parts: List::new(alloc),
     }
 }
@@ -157,7 +142,6 @@ impl<F: Fn(Global, &[Lexeme], &Scope, Nonterminal, u32, u32) -> Mem<Option<Found
     /// The token that a terminal takes.
     fn token(&self, scope: Scope, terminal: Terminal, act: Act, at: u32) -> Mem<Option<Found>>
         requires nests { Nests self.now.tokens.now self.now.depth (F.pre self.now.parse) (F.post self.now.parse) }
-        requires plain { body terminal ≡ false }
         ensures { IfOk result (Part self.now.tokens.now self.now.depth scope None (Token terminal act) at) }
     {
         if self.depth == 0 {
@@ -179,59 +163,13 @@ impl<F: Fn(Global, &[Lexeme], &Scope, Nonterminal, u32, u32) -> Mem<Option<Found
         }))
     }
 
-    /// A body: `{` with all up to its partner.
-    fn group(&self, scope: Scope, terminal: Terminal, act: Act, at: u32) -> Mem<Option<Found>>
-        requires nests { Nests self.now.tokens.now self.now.depth (F.pre self.now.parse) (F.post self.now.parse) }
-        requires body { body terminal ≡ true }
-        ensures { IfOk result (Part self.now.tokens.now self.now.depth scope None (Token terminal act) at) }
-    {
-        if self.depth == 0 {
-            return Ok(None);
-        }
-        let Some(class) = class_at(self.tokens, &scope, at) else {
-            return Ok(None);
-        };
-        let there = taken(terminal, class);
-        if !there {
-            return Ok(None);
-        }
-        let last = partner_at(self.tokens, at);
-        if at >= last {
-            return Ok(None);
-        }
-        let shut = is_brace(self.tokens, &scope, last);
-        if !shut {
-            return Ok(None);
-        }
-        let after = pass(self.tokens, scope, act, at)?;
-        Ok(Some(Found {
-            tree: hole_tree(self.alloc, at, last),
-            place: 0,
-            scope: after,
-            height: 1,
-        }))
-    }
-
-    /// What a terminal stands for.
-    fn piece(&self, scope: Scope, terminal: Terminal, act: Act, at: u32) -> Mem<Option<Found>>
-        requires nests { Nests self.now.tokens.now self.now.depth (F.pre self.now.parse) (F.post self.now.parse) }
-        ensures { IfOk result (Part self.now.tokens.now self.now.depth scope None (Token terminal act) at) }
-    {
-        let body = is_body(terminal);
-        if body {
-            self.group(scope, terminal, act, at)
-        } else {
-            self.token(scope, terminal, act, at)
-        }
-    }
-
     /// What a symbol stands for.
     fn symbol(&self, scope: Scope, symbol: Symbol, at: u32) -> Mem<Option<Found>>
         requires nests { Nests self.now.tokens.now self.now.depth (F.pre self.now.parse) (F.post self.now.parse) }
         ensures { IfOk result (Part self.now.tokens.now self.now.depth scope None symbol at) }
     {
         match symbol {
-            Symbol::Token(terminal, act) => self.piece(scope, terminal, act, at),
+            Symbol::Token(terminal, act) => self.token(scope, terminal, act, at),
             Symbol::Node(goal) => self.nonterminal(&scope, goal, at),
             Symbol::Entry => self.entry(scope, at),
         }

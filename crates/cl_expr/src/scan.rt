@@ -3,7 +3,6 @@
 ghost use Rattle.std.specs.Prelude.{◌≡◌, ◌<◌, Some, None, true, false, IfSome, length, slice_get, ℕ};
 ghost use Rattle.cl_tree.specs.Scopes as n;
 ghost use Rattle.cl_tree.specs.Grammar.{takes};
-ghost use Rattle.cl_tree.specs.BadItems.{partner_of};
 ghost use Rattle.cl_tree.specs.Derives as d;
 ghost use Rattle.cl_tree.specs.Derives.{Has};
 ghost use Rattle.cl_tree.specs.declared.class.Class.{Class};
@@ -77,24 +76,6 @@ pub fn taken(terminal: Terminal, class: Class) -> bool
             &[Class::IdentColon, Class::TypedefName, Class::TypedefColon],
             class,
         ),
-        Terminal::Body => has_class(&[Class::LeftBrace], class),
-    }
-}
-
-/// Whether a terminal stands for a body.
-pub fn is_body(terminal: Terminal) -> bool
-    ensures { result ≡ d.is_body terminal }
-{
-    matches!(terminal, Terminal::Body)
-}
-
-/// The number of a token's partner; 0 past the end.
-pub fn partner_at(tokens: &[Lexeme], at: u32) -> u32
-    ensures { result ≡ partner_of (slice_get tokens.now at) }
-{
-    match tokens.get(at as usize) {
-        Some(token) => token.partner,
-        None => 0,
     }
 }
 

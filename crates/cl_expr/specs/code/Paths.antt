@@ -11,7 +11,7 @@ use Rattle.cl_tree.specs.declared.lexeme.Lexeme.{Lexeme}
 use Rattle.cl_tree.specs.declared.scope.Scope.{Scope}
 use Rattle.cl_tree.specs.Grammar.{takes}
 use Rattle.cl_tree.specs.Scopes.{class_at, pass, leave}
-use Rattle.cl_tree.specs.Derives.{Has, start, end, parts, piece, Closed, Opened, Within, bad}
+use Rattle.cl_tree.specs.Derives.{Has, start, end, parts, leaf, Opened, Within, bad}
 use Rattle.cl_tree.specs.BadItems.{bad_end}
 use Rattle.cl_expr.specs.declared.table.Edge.{Edge}
 use Rattle.cl_expr.specs.declared.table.Label.{Label}
@@ -31,7 +31,7 @@ Ended cs s z to n = (name_of z ≡ Some n) × ((k : Class) → class_at cs s to 
 module _ (D : Nonterminal → ℕ → Scope → Tree → Scope → Type 0) (h : ℕ) (cs : List Lexeme) where
   -- a part that a symbol stands for, of a kind and with a height of at most h, and what is declared after it
   abbrev pub Reads : Symbol → ℕ → Scope → ℕ → Tree → Scope → Type 0
-  Reads (Token k a) y s at p w = (y ≡ 0) × (1 ≤ h) × (p ≡ piece cs k at) × ((c : Class) × (class_at cs s at ≡ Some c) × Has (takes k) c) × (w ≡ pass cs s a at) × Closed cs s k at
+  Reads (Token k a) y s at p w = (y ≡ 0) × (1 ≤ h) × (p ≡ leaf at) × ((c : Class) × (class_at cs s at ≡ Some c) × Has (takes k) c) × (w ≡ pass cs s a at)
   Reads (Node g) y s at p w = D g y s p w × (start p ≡ at)
   Reads Entry y s at p w =
       (D nt.BlockItem y s p w × (start p ≡ at))

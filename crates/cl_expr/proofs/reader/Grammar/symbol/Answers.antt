@@ -6,7 +6,7 @@ use Rattle.cl_expr.proofs.Climb.{ok_map}
 use Rattle.cl_expr.proofs.reader.Grammar.symbol.Goals as goal
 
 pub returns-in-Token : goal.returns-in-Token
-returns-in-Token g c = rw c.in-Token.is c.piece.ensures
+returns-in-Token g c = rw c.in-Token.is c.token.ensures
 
 pub returns-in-Node : goal.returns-in-Node
 returns-in-Node g c =
