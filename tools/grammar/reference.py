@@ -1,4 +1,4 @@
-"""Trees of expressions, declarations and statements by a parser of its own, which shares nothing with the tables. Writes crates/cl_tree_cases/stdout from
+"""Trees of expressions, declarations, statements and files by a parser of its own, which shares nothing with the tables. Writes crates/cl_tree_cases/stdout from
 the cases in cases.txt; pycparser says beside it which texts of C99 are none, and clang what type each declarator puzzle has."""
 import re, sys, os, subprocess, tempfile
 TOK = re.compile(r'\s*([A-Za-z_]\w*|\d[\w.]*|"[^"]*"|\'[^\']*\'|\.\.\.|<<=|>>=|->|\+\+|--|<<|>>|<=|>=|==|!=|&&|\|\||[-+*/%&|^]=|[-+*/%&|^~!<>=?:;,.(){}\[\]])')
@@ -344,7 +344,33 @@ class P:
         o = s.eat('('); choice = 3 if s.is_declaration() else 2
         first = [s.declaration()] if choice == 3 else [*s.maybe(';'), s.eat(';')]
         return node('IterationStatement', choice, t, o, *first, *s.maybe(';'), s.eat(';'), *s.maybe(')'), s.eat(')'), s.block(s.statement))
-GOALS = {'expression': P.expr, 'declaration': P.declaration, 'type name': P.type_name, 'statement': P.statement, 'block item': P.block_item, 'function definition': P.definition}
+    def external(s, to):
+        """An external declaration on just the tokens up to one: with a body at its end a definition, else a declaration."""
+        s.first = None; s.lists = 0
+        t = s.definition() if s.t[to - 1] == '}' else s.declaration()
+        if s.i != to: raise No()
+        return t
+    def file(s):
+        """The items of a file: external declarations, and what is none past its first `;` or brace group."""
+        all_tokens = s.t; partner = pairs(all_tokens); items = []
+        while s.i < len(all_tokens):
+            first = s.i; to = first; equal = False
+            while to < len(all_tokens):
+                t = all_tokens[to]; group = partner[to] > to; body = t == '{' and group and not equal and to > 0 and all_tokens[to - 1] in (')', ']')
+                equal = equal or t == '='; to = max(to, partner[to]) + 1
+                if t == ';' or body: break
+            saved = s.save(); s.t = all_tokens[:to]
+            try: items.append(s.external(to))
+            except No:
+                s.back(saved)
+                while s.i < len(all_tokens):
+                    t = all_tokens[s.i]; group = t == '{' and partner[s.i] > s.i
+                    s.i = max(s.i, partner[s.i]) + 1
+                    if t == ';' or group: break
+                items.append(node('Bad', 0, *all_tokens[first:s.i]))
+            s.t = all_tokens
+        return ' '.join(items)
+GOALS = {'expression': P.expr, 'declaration': P.declaration, 'type name': P.type_name, 'statement': P.statement, 'block item': P.block_item, 'file': P.file}
 def tree(goal, text, typedefs):
     p = P(lex(text), typedefs)
     try:
@@ -427,7 +453,7 @@ if __name__ == '__main__':
     import pycparser
     def outside(goal, text, names):
         before = ''.join('typedef int ' + n + '; ' for n in names)
-        if goal == 'function definition': goal = 'declaration'
+        if goal == 'file': goal = 'declaration'
         if goal in ('statement', 'block item'): text = 'void f0(void) { ' + ('for (;;) switch (x) ' if goal == 'statement' else '') + text + ' }'; goal = 'declaration'
         try: pycparser.CParser().parse(before + ('void f0(void) { x = sizeof(' + text + '); }' if goal != 'declaration' else text)); return True
         except Exception: return False
@@ -438,7 +464,7 @@ if __name__ == '__main__':
         rows.append(l if c is None else l + ' => ' + c[2])
         if c is None: continue
         count += 1
-        if outside(c[0], l, c[1]) != (c[2] != 'none'): differ.append(('takes' if c[2] == 'none' else 'refuses') + ' ' + l)
+        if outside(c[0], l, c[1]) != (c[2] != 'none' and not (c[0] == 'file' and '(Bad.0' in c[2])): differ.append(('takes' if c[2] == 'none' else 'refuses') + ' ' + l)
         if part.startswith('; textbook'):
             puzzles += 1; a = types(c[2]).replace(' ', ''); b = (clang('extern ' + l) or '').replace(' ', '')
             if a != b: print('clang differs:', l, '|', a, '|', b)

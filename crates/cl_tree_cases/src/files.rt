@@ -1,6 +1,6 @@
 //! Files, with their items and what they declare.
 
-use crate::trees::tokens_of;
+use crate::trees::{tokens_of, write_range, write_tree};
 use cl_base::Mem;
 use cl_outline::outline;
 use cl_parse::{Item, ends_whole, items, text_at};
@@ -39,6 +39,28 @@ pub(crate) fn items_of(alloc: Global, text: &[u8]) -> Mem<String> {
             }
         };
         out.push_str(shown.as_str())?;
+    }
+    Ok(out)
+}
+
+/// The items of a file, each as its tree; a bad one as the tokens it goes over.
+pub(crate) fn trees_of(alloc: Global, text: &[u8], typedefs: NameSet) -> Mem<String> {
+    let tokens = tokens_of(alloc, text)?;
+    let tokens = tokens.as_slice();
+    let items = items(alloc, tokens, typedefs)?;
+    let mut out = String::new(alloc);
+    for item in items.as_slice() {
+        if !out.is_empty() {
+            out.push_str(" ")?;
+        }
+        match item {
+            Item::Proper(tree) => write_tree(alloc, &mut out, tokens, tree)?,
+            Item::Bad(from, to) => {
+                out.push_str("(Bad.0")?;
+                write_range(alloc, &mut out, tokens, *from, *to)?;
+                out.push_str(")")?;
+            }
+        }
     }
     Ok(out)
 }

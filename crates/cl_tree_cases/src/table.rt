@@ -20,8 +20,8 @@ enum Section {
     Statement,
     /// Items of a block (6.8.2).
     BlockItem,
-    /// Function definitions (6.9.1), with their bodies.
-    Definition,
+    /// Files, with the trees of their items (6.9).
+    File,
     /// Files, with whether they end whole.
     EndsWhole,
     /// Files, with their items.
@@ -34,7 +34,7 @@ enum Section {
 #[derive(Drop)]
 pub(crate) struct Table {
     section: Section,
-    typedefs: NameSet,
+    names: String,
 }
 
 impl Table {
@@ -42,7 +42,7 @@ impl Table {
     pub(crate) fn new(alloc: Global) -> Table {
         Table {
             section: Section::Expression,
-            typedefs: NameSet::new(alloc),
+            names: String::new(alloc),
         }
     }
 
@@ -55,7 +55,8 @@ impl Table {
             self.section = section_of(line);
         }
         if let Some(names) = line.strip_prefix("typedefs ") {
-            self.typedefs = names_of(alloc, names)?;
+            self.names.clear();
+            self.names.push_str(names)?;
         }
         let shown = format!(in alloc; "{line}\n")?;
         Ok(shown)
@@ -63,13 +64,14 @@ impl Table {
 
     fn case(&self, alloc: Global, line: &str) -> Mem<String> {
         let (text, _wanted) = line.split_once(" => ").unwrap_or((line, ""));
+        let names = names_of(alloc, self.names.as_str())?;
         let found = match self.section {
-            Section::Expression => trees::expression(alloc, text.as_bytes(), &self.typedefs)?,
-            Section::Declaration => trees::declaration(alloc, text.as_bytes(), &self.typedefs)?,
-            Section::TypeName => trees::type_name(alloc, text.as_bytes(), &self.typedefs)?,
-            Section::Statement => trees::statement(alloc, text.as_bytes(), &self.typedefs)?,
-            Section::BlockItem => trees::block_item(alloc, text.as_bytes(), &self.typedefs)?,
-            Section::Definition => trees::definition(alloc, text.as_bytes(), &self.typedefs)?,
+            Section::Expression => trees::expression(alloc, text.as_bytes(), &names)?,
+            Section::Declaration => trees::declaration(alloc, text.as_bytes(), &names)?,
+            Section::TypeName => trees::type_name(alloc, text.as_bytes(), &names)?,
+            Section::Statement => trees::statement(alloc, text.as_bytes(), &names)?,
+            Section::BlockItem => trees::block_item(alloc, text.as_bytes(), &names)?,
+            Section::File => files::trees_of(alloc, text.as_bytes(), names)?,
             Section::EndsWhole => files::whole(alloc, text.as_bytes())?,
             Section::Items => files::items_of(alloc, text.as_bytes())?,
             Section::Outline => files::outline_of(alloc, text.as_bytes())?,
@@ -83,7 +85,9 @@ impl Table {
 fn names_of(alloc: Global, line: &str) -> Mem<NameSet> {
     let mut names = NameSet::new(alloc);
     for name in line.split(" ") {
-        names.add(alloc, &Name::new(alloc, name.as_bytes())?)?;
+        if !name.is_empty() {
+            names.add(alloc, &Name::new(alloc, name.as_bytes())?)?;
+        }
     }
     Ok(names)
 }
@@ -94,7 +98,7 @@ fn section_of(name: &str) -> Section {
         "[type name]" => Section::TypeName,
         "[statement]" => Section::Statement,
         "[block item]" => Section::BlockItem,
-        "[function definition]" => Section::Definition,
+        "[file]" => Section::File,
         "[ends whole]" => Section::EndsWhole,
         "[items]" => Section::Items,
         "[outline]" => Section::Outline,

@@ -42,14 +42,6 @@ pub(crate) fn block_item(alloc: Global, text: &[u8], typedefs: &NameSet) -> Mem<
     written(alloc, tokens.as_slice(), tree)
 }
 
-/// That of a function definition with its body.
-pub(crate) fn definition(alloc: Global, text: &[u8], typedefs: &NameSet) -> Mem<String> {
-    let tokens = tokens_of(alloc, text)?;
-    let goal = Nonterminal::WholeDefinition;
-    let tree = parse(alloc, tokens.as_slice(), typedefs, goal)?;
-    written(alloc, tokens.as_slice(), tree)
-}
-
 /// The tokens of a text, where no line is a directive.
 pub(crate) fn tokens_of(alloc: Global, text: &[u8]) -> Mem<List<PpToken>> {
     let lexed = lex(alloc, text)?;
@@ -81,7 +73,12 @@ fn written(alloc: Global, tokens: &[PpToken], tree: Option<Tree>) -> Mem<String>
 }
 
 /// A token as it is spelled, any other tree as its rule, its choice and its parts in parentheses.
-fn write_tree(alloc: Global, out: &mut String, tokens: &[PpToken], tree: &Tree) -> Mem<()> {
+pub(crate) fn write_tree(
+    alloc: Global,
+    out: &mut String,
+    tokens: &[PpToken],
+    tree: &Tree,
+) -> Mem<()> {
     if tree.rule == Rule::Token {
         if let Some(token) = tokens.get(tree.from as usize) {
             let text = String::from_utf8_lossy(alloc, token.text.bytes())?;
@@ -103,7 +100,13 @@ fn write_tree(alloc: Global, out: &mut String, tokens: &[PpToken], tree: &Tree) 
 }
 
 /// The tokens from one up to another as they are spelled, each after a space.
-fn write_range(alloc: Global, out: &mut String, tokens: &[PpToken], from: u32, to: u32) -> Mem<()> {
+pub(crate) fn write_range(
+    alloc: Global,
+    out: &mut String,
+    tokens: &[PpToken],
+    from: u32,
+    to: u32,
+) -> Mem<()> {
     for at in from..to {
         if let Some(token) = tokens.get(at as usize) {
             let text = String::from_utf8_lossy(alloc, token.text.bytes())?;

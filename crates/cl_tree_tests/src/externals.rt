@@ -11,11 +11,11 @@ struct Case {
 static CASES: [Case; 18] = [
     Case {
         text: b"int f(void) { return 1; }",
-        part: "(FunctionDefinition.0 (DeclarationSpecifiers.0 (TypeSpecifier.3 int)) (DirectDeclarator.6 (DirectDeclarator.0 f) ( (ParameterList.0 (DeclarationSpecifiers.0 (TypeSpecifier.0 void))) )) {..})",
+        part: "(FunctionDefinition.0 (DeclarationSpecifiers.0 (TypeSpecifier.3 int)) (DirectDeclarator.6 (DirectDeclarator.0 f) ( (ParameterList.0 (DeclarationSpecifiers.0 (TypeSpecifier.0 void))) )) (CompoundStatement.0 { (BlockItemList.0 (JumpStatement.3 return (PrimaryExpression.1 1) ;)) }))",
     },
     Case {
         text: b"int f(void) { return 1 +; ( }",
-        part: "(FunctionDefinition.0",
+        part: "(CompoundStatement.0 { (BlockItemList.0 (Bad.0) (Bad.0)) }))",
     },
     Case {
         text: b"T f(T T) { }",
@@ -23,15 +23,15 @@ static CASES: [Case; 18] = [
     },
     Case {
         text: b"static struct S { int a; } *f() { { } }",
-        part: "(Declarator.0 (Pointer.0 *) (DirectDeclarator.7 (DirectDeclarator.0 f) ( ))) {..})",
+        part: "(Declarator.0 (Pointer.0 *) (DirectDeclarator.7 (DirectDeclarator.0 f) ( ))) (CompoundStatement.0 { (BlockItemList.0 (CompoundStatement.0 { })) }))",
     },
     Case {
         text: b"int f(a, b) { }",
-        part: "(DirectDeclarator.7 (DirectDeclarator.0 f) ( (IdentifierList.0 a b) )) {..})",
+        part: "(DirectDeclarator.7 (DirectDeclarator.0 f) ( (IdentifierList.0 a b) )) (CompoundStatement.0 { }))",
     },
     Case {
         text: b"int (*g(int T))(int u) <% %>",
-        part: "{..})",
+        part: "(CompoundStatement.0 <% %>))",
     },
     Case {
         text: b"int x = 3, *y;",

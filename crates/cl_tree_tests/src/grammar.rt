@@ -105,7 +105,6 @@ fn longer(alloc: Global, lines: &[String], part: Part) -> Mem<Vec<String>> {
 
 fn with(alloc: Global, line: &String, symbol: Symbol) -> Mem<String> {
     let text = match symbol {
-        Symbol::Token(Terminal::Body, _) => format!(in alloc; "{line} CompoundStatement")?,
         Symbol::Token(terminal, _) => format!(in alloc; "{line} {:?}", plain(terminal))?,
         Symbol::Node(goal) => format!(in alloc; "{line} {:?}", standard(goal))?,
         Symbol::Entry => format!(in alloc; "{line} BlockItem")?,
@@ -118,7 +117,6 @@ fn plain(terminal: Terminal) -> Class {
     match terminal {
         Terminal::Name | Terminal::Typed | Terminal::Label | Terminal::Marked => Class::Ident,
         Terminal::Open | Terminal::TypeOpen => Class::LeftParen,
-        Terminal::Body => Class::LeftBrace,
         Terminal::Is(Class::TypeParen) | Terminal::Is(Class::LiteralParen) => Class::LeftParen,
         Terminal::Is(Class::LastComma) | Terminal::Is(Class::DesignationComma) => Class::Comma,
         Terminal::Is(Class::StarBracket) => Class::Star,

@@ -109,10 +109,6 @@ fn write_tree(alloc: Global, out: &mut String, tokens: &[PpToken], tree: &Tree) 
         }
         return Ok(());
     }
-    if tree.rule == Rule::Hole {
-        out.push_str("{..}")?;
-        return Ok(());
-    }
     let head = format!(in alloc; "({:?}.{}", tree.rule, tree.choice)?;
     out.push_str(head.as_str())?;
     for part in tree.parts.as_slice() {
