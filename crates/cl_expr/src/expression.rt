@@ -68,8 +68,8 @@ fn ends_with_brace(tokens: &[Lexeme], scope: &Scope) -> bool
     is_brace(tokens, scope, tokens.len().saturating_sub(1) as u32)
 }
 
-/// The one tree of an external declaration (N1570 6.9) on all of these tokens from one on: of a function definition, whose body
-/// is read as one part, or of a declaration. None exactly where neither derives. 2^32 - 4 tokens or more are want of memory.
+/// The one tree of an external declaration (N1570 6.9) on all of these tokens from one on: of a function definition with its
+/// body, or of a declaration. None exactly where neither derives. 2^32 - 4 tokens or more are want of memory.
 pub fn parse_external(
     alloc: Global,
     tokens: &[Lexeme],

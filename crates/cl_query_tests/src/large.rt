@@ -14,6 +14,9 @@ const DEPTH: usize = 60_000;
 /// A function with its body, and an item that is none.
 const LINE: &[u8] = b"int a(int b) { return b; } +;\n";
 
+/// An item of a block, and what is none.
+const PART: &[u8] = b"b = b + 1; +;\n";
+
 #[test]
 fn many_items(rt: HostRuntime) -> Result<(), Memory> {
     let alloc = rt.alloc();
@@ -22,6 +25,20 @@ fn many_items(rt: HostRuntime) -> Result<(), Memory> {
     assert!(rt;
         symbols_of(alloc, text)? == LINES,
         "a symbol for each function"
+    );
+    Ok(())
+}
+
+#[test]
+fn long_body(rt: HostRuntime) -> Result<(), Memory> {
+    let alloc = rt.alloc();
+    let mut text = Vec::new(alloc);
+    repeat(&mut text, b"int a(int b) {\n", 1)?;
+    repeat(&mut text, PART, LINES)?;
+    repeat(&mut text, b"}\nint c;\n", 1)?;
+    assert!(rt;
+        symbols_of(alloc, text)? == 2,
+        "the function and what stands behind it"
     );
     Ok(())
 }
