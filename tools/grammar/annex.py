@@ -24,6 +24,7 @@ RULES_TREE = ("PrimaryExpression GenericSelection GenericAssocList GenericAssoci
   "TranslationUnit ExternalDeclaration FunctionDefinition").split()
 # nonterminals that aren't the standard's: a rule of it in one context
 EXTRA = ("OtherSpecifier LaterTypeSpecifier LaterSpecifier ParameterDeclarator DirectParameterDeclarator AnyDeclarator DirectAnyDeclarator "
+  "ClosedStatement OpenStatement ClosedLabeledStatement OpenLabeledStatement ClosedSelectionStatement OpenSelectionStatement ClosedIterationStatement OpenIterationStatement "
   "UnlabelledExpression PlainExpression BlockStatement BlockExpressionStatement BlockDeclaration BlockSpecifiers FunctionBody").split()
 def T(c, act='Stay'): return ('T', c, act)
 def N(g): return ('N', g)
@@ -148,20 +149,25 @@ R('StaticAssertDeclaration', 'StaticAssertDeclaration', 0, T('StaticAssert'), OP
 U('AnyDeclarator', 'ParameterDeclarator', 'AbstractDeclarator'); U('DirectAnyDeclarator', 'DirectParameterDeclarator', 'DirectAbstractDeclarator')
 
 S('Statements', 'A.2.3')
-STATEMENT = N('Statement'); IFPAREN = T('RightParen', 'Open')
-U('Statement', 'LabeledStatement', 'CompoundStatement', 'ExpressionStatement', 'SelectionStatement', 'IterationStatement', 'JumpStatement')
-l = 'LabeledStatement'
-R(l, l, 0, T('Label'), COLON, STATEMENT); R(l, l, 1, T('Case'), CONST, COLON, STATEMENT); R(l, l, 2, T('Default'), COLON, STATEMENT)
+# a statement that ends with an `if` without `else` is open, any other closed: only after a closed one the `else` of an `if` around it may stand
+STATEMENT = N('Statement'); CLOSED = N('ClosedStatement'); SORTS = (('Closed', CLOSED), ('Open', N('OpenStatement'))); IFPAREN = T('RightParen', 'Open')
+l = 'LabeledStatement'; s = 'SelectionStatement'; i_ = 'IterationStatement'
+U('Statement', 'ClosedStatement', 'OpenStatement')
+U('ClosedStatement', 'Closed' + l, 'CompoundStatement', 'ExpressionStatement', 'Closed' + s, 'Closed' + i_, 'JumpStatement'); U('OpenStatement', 'Open' + l, 'Open' + s, 'Open' + i_)
+for x in (l, s, i_): U(x, 'Closed' + x, 'Open' + x)
+for o, last in SORTS: R(o + l, l, 0, T('Label'), COLON, last); R(o + l, l, 1, T('Case'), CONST, COLON, last); R(o + l, l, 2, T('Default'), COLON, last)
 R('CompoundStatement', 'CompoundStatement', 0, T('LeftBrace', 'Open'), opt(N('BlockItemList')), T('RightBrace', 'Close'))
 R('BlockItemList', 'BlockItemList', 0, ENTRY, many(ENTRY))
 U('BlockItem', 'BlockDeclaration', 'BlockStatement')
 R('ExpressionStatement', 'ExpressionStatement', 0, opt(N('UnlabelledExpression')), SEMI)
-s = 'SelectionStatement'
-R(s, s, 0, T('If'), OPEN, EXPR, IFPAREN, STATEMENT, bar='Else', scoped=True); R(s, s, 1, T('If'), OPEN, EXPR, IFPAREN, STATEMENT, T('Else', 'Close'), STATEMENT, scoped=True)
-R(s, s, 2, T('Switch'), OPEN, EXPR, RP, STATEMENT, scoped=True)
-i_ = 'IterationStatement'; FOREXPR = opt(N('PlainExpression'))
-R(i_, i_, 0, T('While'), OPEN, EXPR, RP, STATEMENT, scoped=True); R(i_, i_, 1, T('Do', 'Open'), STATEMENT, T('While', 'Close'), OPEN, EXPR, RP, SEMI, scoped=True)
-R(i_, i_, 2, T('For'), OPEN, FOREXPR, SEMI, opt(EXPR), SEMI, opt(EXPR), RP, STATEMENT, scoped=True); R(i_, i_, 3, T('For'), OPEN, N('Declaration'), opt(EXPR), SEMI, opt(EXPR), RP, STATEMENT, scoped=True)
+IF = (T('If'), OPEN, EXPR, IFPAREN)
+R('Open' + s, s, 0, *IF, CLOSED, bar='Else', scoped=True); R('Open' + s, s, 0, *IF, N('OpenStatement'), scoped=True)
+for o, last in SORTS: R(o + s, s, 1, *IF, CLOSED, T('Else', 'Close'), last, scoped=True)
+for o, last in SORTS: R(o + s, s, 2, T('Switch'), OPEN, EXPR, RP, last, scoped=True)
+FOREXPR = opt(N('PlainExpression')); TAIL = (opt(EXPR), SEMI, opt(EXPR), RP)
+R('Closed' + i_, i_, 1, T('Do', 'Open'), STATEMENT, T('While', 'Close'), OPEN, EXPR, RP, SEMI, scoped=True)
+for o, last in SORTS:
+    R(o + i_, i_, 0, T('While'), OPEN, EXPR, RP, last, scoped=True); R(o + i_, i_, 2, T('For'), OPEN, FOREXPR, SEMI, *TAIL, last, scoped=True); R(o + i_, i_, 3, T('For'), OPEN, N('Declaration'), *TAIL, last, scoped=True)
 j = 'JumpStatement'
 R(j, j, 0, T('Goto'), NAME, SEMI); R(j, j, 1, T('Continue'), SEMI); R(j, j, 2, T('Break'), SEMI); R(j, j, 3, T('Return'), opt(EXPR), SEMI)
 U('UnlabelledExpression', 'Expression'); U('PlainExpression', 'Expression'); U('BlockSpecifiers', 'DeclarationSpecifiers')

@@ -136,7 +136,7 @@ macro_rules! ending {
     };
 }
 
-// the same of a declarator that names something
+// the same of a declarator that names something, or of a statement that ends with an `if` without `else`
 macro_rules! naming {
     ($first:expr, $last:expr, $rule:ident, $choice:expr) => {
         row!($first, $last, label!($rule, $choice), None, false, None, None, true)
@@ -157,10 +157,17 @@ macro_rules! scoped {
     };
 }
 
-// the same before anything but `else`
+// the same of a block that ends with an `if` without `else`
+macro_rules! open {
+    ($first:expr, $last:expr, $rule:ident, $choice:expr) => {
+        row!($first, $last, label!($rule, $choice), None, true, None, None, true)
+    };
+}
+
+// the same where an `else` may follow
 macro_rules! without_else {
     ($first:expr, $last:expr, $rule:ident, $choice:expr) => {
-        row!($first, $last, label!($rule, $choice), Some(Terminal::Is(Class::Else)), true, None, None, false)
+        row!($first, $last, label!($rule, $choice), Some(Terminal::Is(Class::Else)), true, None, None, true)
     };
 }
 
@@ -171,7 +178,7 @@ macro_rules! corner {
     };
 }
 
-// a place after a declarator of a parameter
+// a place after a declarator of a parameter, or after a statement within another one
 macro_rules! turning {
     ($first:expr, $last:expr, $named:expr, $other:expr) => {
         row!($first, $last, None, None, false, None, Some(Ways { named: $named, other: $other }), false)
@@ -179,10 +186,11 @@ macro_rules! turning {
 }
 
 ''' + ROWS
+FORMS = {('ending', False): 'ending', ('ending', True): 'naming', ('untyped', False): 'untyped', ('scoped', False): 'scoped', ('scoped', True): 'open', ('without_else', True): 'without_else'}
 def row_rs(i, p):
     f = f'{er[i][0]}, {er[i][1]}'
     assert sum(map(bool, (p['name'], p['corner'], p['turn']))) <= 1
-    if p['name']: return f'{form(p, "naming" if is_named[i] else "ending")}!({f}, {p["name"][0]}, {p["name"][1]})'
+    if p['name']: return f'{FORMS[form(p, "ending"), is_named[i]]}!({f}, {p["name"][0]}, {p["name"][1]})'
     if p['corner']: return f'corner!({f}, {p["corner"][0]}, {p["corner"][1]})'
     if p['turn']: return f'turning!({f}, {p["turn"][0]}, {p["turn"][1]})'
     return f'inner!({f})'
@@ -263,7 +271,8 @@ pub struct Head {
     pub next: u16,
 }
 
-/// The places after a declarator that names something, and after any other one.
+/// The places after a declarator that names something, and after any other one; or after a statement that ends with an `if`
+/// without `else`, and after any other one.
 #[derive(Clone, Copy)]
 pub struct Ways {
     pub named: u16,
@@ -272,7 +281,7 @@ pub struct Ways {
 
 /// A place: its edges as a range of all of them, the node that may end there, what may not follow it then and whether it is a
 /// block, the nonterminal with which its production begins if that is read before, the places after a part whose kind
-/// decides, and whether the node is a declarator that names something.
+/// decides, and whether the node is a declarator that names something or a statement that ends with an `if` without `else`.
 #[derive(Clone, Copy)]
 pub struct Row {
     pub first: u16,
@@ -296,6 +305,7 @@ pub struct GoalRow {
     pub shuns: Option<Terminal>,
 }
 ''')
+BEFORE_ELSE, = [n for n, q in enumerate(P) if q['bar'] == 'Else']; (_, _, AFTER_ELSE), = P[BEFORE_ELSE]['edges']; (_, _, PAST_ELSE), = P[AFTER_ELSE]['edges']
 A = '''-- The places in the productions. Written by tools/grammar/emit_expr.py; proofs/Conditions and proofs/Bridge check it against the productions.
 use Rattle.std.specs.Prelude.{ℕ, List, [], ◌∷◌, ◌++◌, Option, Some, None, Bool, true, false, cond, slice_get, slice_range}
 use Rattle.cl_tree.specs.declared.class.Class.{Class}
@@ -324,9 +334,9 @@ pub record Item : Type 0 where
   pub behind : ℕ
 
 -- a place: what may stand there, the node that may end there, what may not follow it and whether it is a block, the nonterminal with which its
--- production begins if that is read before, the places after a part that turns on its kind, whether the node is a declarator that names something,
--- the place where the production begins, whether it holds no block, the tokens that go on from where the node may end, and the productions that are
--- there
+-- production begins if that is read before, the places after a part that turns on its kind, whether the node is a declarator that names something or
+-- a statement that ends with an `if` without `else`, the place where the production begins, whether it holds no block, the tokens that go on from
+-- where the node may end, and the productions that are there
 pub record Place : Type 0 where
   pub edges : List Edge
   pub label : Option Label
@@ -389,7 +399,7 @@ def edge_a(x):
     return f'e {tsym_a(s)} {n}' if a is None else f'after (record {{ class = cl.{a[0]}; act = ac.{a[1]} }}) {tsym_a(s)} {n}'
 for n, q in enumerate(P):
     if q['items']: A += f'    -- {n}: ' + '; '.join(show(*x) for x in q['items'][:2]) + (' ..' if len(q['items']) > 2 else '') + '\n'
-    else: A += f'    -- {n}: ' + ('a token' if n == 0 else 'a declarator was read') + '\n'
+    else: A += f'    -- {n}: ' + ('a token' if n == 0 else 'a statement was read' if q['turn'] and 'Open' in PRODS[P[q['turn'][0]]['items'][0][0]]['of'] or q['turn'] and 'Statement' in show(*P[q['turn'][0]]['items'][0]) else 'a declarator was read') + '\n'
     lab = f'(label ru.{q["name"][0]} {q["name"][1]})' if q['name'] else 'None'
     A += f'    row {lst([edge_a(x) for x in q["edges"]])} {lab} {"(Some %s)" % tterm_a(q["bar"]) if q["bar"] else "None"} {"true" if q["scoped"] else "false"} {"(head nt.%s %d)" % q["corner"] if q["corner"] else "None"} {"(ways %d %d)" % q["turn"] if q["turn"] else "None"} {"true" if is_named[n] else "false"} {q["home"]} {"true" if flat[q["home"]] else "false"} {lst(["cl." + c for c in order(ends[n])])} {lst(["i %d %d" % x for x in q["items"]])} ∷\n'
 A += '    []\n\nunfoldable pub goals : List Goal\ngoals =\n'
@@ -404,6 +414,16 @@ entry_classes = ''' + ' ∷ '.join(['cl.' + c for c in ENTRIES] + ['[]']) + '''
 -- the places where the productions begin, by the numbers of these
 unfoldable pub starts : List ℕ
 starts = ''' + ' ∷ '.join([str(START[i]) for i in range(len(PRODS))] + ['[]']) + '''
+
+-- the places before and after the `else` of an `if`, and after the statement that follows it
+abbrev pub before_else : ℕ
+before_else = ''' + f'{BEFORE_ELSE}' + '''
+
+abbrev pub after_else : ℕ
+after_else = ''' + f'{AFTER_ELSE}' + '''
+
+abbrev pub past_else : ℕ
+past_else = ''' + f'{PAST_ELSE}' + '''
 
 abbrev pub number : Nonterminal → ℕ
 ''' + ''.join(f'number nt.{g} = {i}\n' for i, g in enumerate(GOALS)) + '''
@@ -486,6 +506,11 @@ turned (Some w) q b = cond b w.named w.other
 
 unfoldable pub turn : ℕ → ℕ → ℕ
 turn q z = turned (turning q) q (is_named z)
+
+-- the place after what stands first at a place
+abbrev pub next_by : Option Edge → ℕ → ℕ
+next_by None q = q
+next_by (Some e) q = e.next
 
 -- the lists as the code has them
 abbrev edges_in : List Place → List Edge

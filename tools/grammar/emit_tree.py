@@ -13,13 +13,18 @@ SECTIONS = dict(PrimaryExpression='6.5.1', GenericSelection='6.5.1.1', GenericAs
   ParameterTypeList='6.7.6', ParameterList='6.7.6', ParameterDeclaration='6.7.6', IdentifierList='6.7.6', TypeName='6.7.7', AbstractDeclarator='6.7.7', DirectAbstractDeclarator='6.7.7', TypedefName='6.7.8',
   Initializer='6.7.9', InitializerList='6.7.9', Designation='6.7.9', DesignatorList='6.7.9', Designator='6.7.9', StaticAssertDeclaration='6.7.10',
   Statement='6.8', LabeledStatement='6.8.1', CompoundStatement='6.8.2', BlockItemList='6.8.2', BlockItem='6.8.2', ExpressionStatement='6.8.3', SelectionStatement='6.8.4', IterationStatement='6.8.5', JumpStatement='6.8.6',
+  ClosedStatement='6.8', OpenStatement='6.8', ClosedLabeledStatement='6.8.1', OpenLabeledStatement='6.8.1', ClosedSelectionStatement='6.8.4', OpenSelectionStatement='6.8.4', ClosedIterationStatement='6.8.5', OpenIterationStatement='6.8.5',
   UnlabelledExpression='6.8.3', PlainExpression='6.8.3', BlockStatement='6.8.2', BlockExpressionStatement='6.8.2', BlockDeclaration='6.8.2', BlockSpecifiers='6.8.2', FunctionBody='6.9.1', TranslationUnit='6.9', ExternalDeclaration='6.9', FunctionDefinition='6.9.1', AnyDeclarator='6.7.6', DirectAnyDeclarator='6.7.6')
 EXTRA_DOC = dict(OtherSpecifier='A specifier of a declaration that is no type specifier', LaterSpecifier='A specifier of a declaration after a type specifier', LaterTypeSpecifier='A type specifier that is no typedef name: any after another one',
   LaterQualifier='A qualifier, or a type specifier after another one', ParameterDeclarator='A declarator of a parameter: after its `(` a type begins parameters', DirectParameterDeclarator='A direct-declarator of a parameter',
   AnyDeclarator='A declarator of a parameter, or an abstract one', DirectAnyDeclarator='A direct-declarator of a parameter, or an abstract one',
+  ClosedStatement='A statement that ends with no `if` without `else`: only after such a one the `else` of an `if` around it stands', OpenStatement='A statement that ends with an `if` without `else`',
+  **{o + g: f'{d} that ends with {e} `if` without `else`' for g, d in (('LabeledStatement', 'A labeled-statement'), ('SelectionStatement', 'A selection-statement'), ('IterationStatement', 'An iteration-statement')) for o, e in (('Closed', 'no'), ('Open', 'an'))},
   UnlabelledExpression='An expression that begins with no label: that of an expression statement', PlainExpression='An expression that begins with no label and no typedef name: where a declaration may stand too',
   BlockStatement='A statement of a block: it begins with no typedef name', BlockExpressionStatement='An expression-statement of a block', BlockDeclaration='A declaration of a block: it begins with no label',
   BlockSpecifiers='The specifiers of a declaration of a block', FunctionBody='The compound-statement of a function-definition: its parameters are declared in it')
+# of a closed or open sort of statement its own rule
+SORTED = {o + g: g for o in ('Closed', 'Open') for g in ('LabeledStatement', 'SelectionStatement', 'IterationStatement')}
 import re
 def dashed(n): return re.sub(r'(?<=[a-z])(?=[A-Z])', '-', n).lower().replace('and-expression', 'AND-expression') if n == 'AndExpression' else re.sub(r'(?<=[a-z])(?=[A-Z])', '-', n).lower()
 STD = {'GenericAssocList': 'generic-assoc-list', 'AndExpression': 'AND-expression', 'ExclusiveOrExpression': 'exclusive-OR-expression', 'InclusiveOrExpression': 'inclusive-OR-expression', 'LogicalAndExpression': 'logical-AND-expression',
@@ -255,7 +260,7 @@ macro_rules! scoped {
     };
 }
 
-// a statement that is a block, after which no `else` may stand
+// the same, after which an `else` may stand only where no statement derives after that
 macro_rules! without_else {
     ($of:ident, $rule:ident, $choice:expr, $from:expr, $to:expr) => {
         row!($of, $rule, $choice, $from, $to, Some(Terminal::Is(Class::Else)), true)
@@ -398,21 +403,23 @@ untyped g r c ps = record { of = g; rule = r; choice = c; parts = ps; again = []
 abbrev pub scoped : Nonterminal → Rule → ℕ → List Part → Production
 scoped g r c ps = record { of = g; rule = r; choice = c; parts = ps; again = []; bar = None; scoped = true }
 
--- a statement that is a block, after which no `else` may stand: an `else` goes with the nearest `if` (6.8.4.1p3)
+-- a statement that is a block, after which an `else` may stand only where no statement derives after that: an `else` goes with the nearest `if` that
+-- the syntax allows (6.8.4.1p3)
 abbrev pub without_else : Nonterminal → Rule → ℕ → List Part → Production
 without_else g r c ps = record { of = g; rule = r; choice = c; parts = ps; again = []; bar = Some (te.Is cl.Else); scoped = true }
 
 abbrev pub unit : Nonterminal → Nonterminal → UnitRow
 unit g u = record { of = g; by = u }
 
--- the productions that make a node
+-- the productions that make a node; a statement that ends with an `if` without `else` is open, any other closed
 unfoldable pub productions : List Production
 productions =
 '''
     last = None
     for p in PRODS:
-        if p['of'] != last:
-            last = p['of']
+        of = SORTED.get(p['of'], p['of'])
+        if of != last:
+            last = of
             a += f'    -- {EXTRA_DOC[last] if last in EXTRA_DOC else std(last)} ({SECTIONS[last]})\n'
         ps = ' ∷ '.join([f'{PART_A[k]} {sym_a(s)}' for k, s in p['parts']] + ['[]'])
         if p['again']:

@@ -2,7 +2,8 @@
 import sys
 from annex import *
 NAMED_RULES = ('Declarator', 'DirectDeclarator')
-MERGED = {frozenset(('ParameterDeclarator', 'AbstractDeclarator')): 'AnyDeclarator', frozenset(('DirectParameterDeclarator', 'DirectAbstractDeclarator')): 'DirectAnyDeclarator'}
+MERGED = {frozenset(('ParameterDeclarator', 'AbstractDeclarator')): 'AnyDeclarator', frozenset(('DirectParameterDeclarator', 'DirectAbstractDeclarator')): 'DirectAnyDeclarator',
+  frozenset(('OpenStatement', 'ClosedStatement')): 'Statement'}
 GOALS = []
 for g in list(dict.fromkeys([p['of'] for p in PRODS] + list(UNITS))):
     GOALS.append(g)
@@ -15,7 +16,8 @@ def shunned(g): return set(takes(SHUNS[g])) if g in SHUNS else set()
 CORNERS = {'PostfixExpression', 'ConditionalExpression', 'AssignmentExpression', 'Expression', 'InitDeclarator', 'StructDeclarator', 'Declarator', 'ParameterDeclarator', 'AbstractDeclarator',
   'DirectDeclarator', 'DirectParameterDeclarator', 'DirectAbstractDeclarator', 'ParameterTypeList', 'ParameterDeclaration', 'TypeName'} | {b for b, _ in BINARY}
 # nonterminals whose productions begin alike
-GROUP = {'ParameterDeclarator': 'AnyDeclarator', 'AbstractDeclarator': 'AnyDeclarator', 'DirectParameterDeclarator': 'DirectAnyDeclarator', 'DirectAbstractDeclarator': 'DirectAnyDeclarator'}
+GROUP = {'ParameterDeclarator': 'AnyDeclarator', 'AbstractDeclarator': 'AnyDeclarator', 'DirectParameterDeclarator': 'DirectAnyDeclarator', 'DirectAbstractDeclarator': 'DirectAnyDeclarator',
+  **{o + g: g for o in ('Open', 'Closed') for g in ('LabeledStatement', 'SelectionStatement', 'IterationStatement')}}
 def corner_of(p):
     s = p['parts'][0]
     return s[1][1] if p['of'] in CORNERS and s[0] == '1' and s[1][0] == 'N' else None
@@ -59,7 +61,7 @@ def fill(n):
             other = [t for t in order if t[0] == sep and t[1][0] == 'N' and frozenset((s[1], t[1][1])) in MERGED]
             if other:
                 t = other[0]; done |= {(sep, s), t}
-                pd, ad = (s, t[1]) if 'Parameter' in s[1] else (t[1], s)
+                pd, ad = (s, t[1]) if 'Parameter' in s[1] or 'Open' in s[1] else (t[1], s)
                 m = N(MERGED[frozenset((s[1], t[1][1]))])
                 turn = len(P); P.append(dict(home=home, items=[], edges=[], name=None, bar=None, scoped=False, corner=None, turn=None))
                 q['edges'].append((sep, m, turn))
@@ -95,7 +97,7 @@ def kinds(g):
             if z not in K[g]: K[g].append(z)
     return K[g]
 for g in GOALS: kinds(g)
-is_named = [bool(q['name'] and q['name'][0] in NAMED_RULES) for q in P]
+is_named = [bool(q['name'] and (q['name'][0] in NAMED_RULES or any(PRODS[i]['of'].startswith('Open') for i, d in q['items']))) for q in P]
 def turn(n, y):
     w = P[n]['turn']
     return n if w is None else w[0] if is_named[y] else w[1]

@@ -27,14 +27,14 @@ def pairs(toks):
 class No(Exception): pass
 def node(r, c, *ps): return '(' + r + '.' + str(c) + ''.join(' ' + p for p in ps) + ')'
 class P:
-    def __init__(s, toks, typedefs): s.t = toks; s.i = 0; s.scopes = [{n: True for n in typedefs}]; s.lists = 0; s.first = None
+    def __init__(s, toks, typedefs): s.t = toks; s.i = 0; s.scopes = [{n: True for n in typedefs}]; s.lists = 0; s.first = None; s.lost = set()
     def typed(s, name):
         for f in reversed(s.scopes):
             if name in f: return f[name]
         return False
     def declare(s, name, typed): s.scopes[-1][name] = typed
-    def save(s): return s.i, [dict(f) for f in s.scopes]
-    def back(s, saved): s.i, s.scopes = saved
+    def save(s): return s.i, [dict(f) for f in s.scopes], set(s.lost)
+    def back(s, saved): s.i, s.scopes, s.lost = saved[0], [dict(f) for f in saved[1]], set(saved[2])
     def at(s, k=0): return s.t[s.i + k] if s.i + k < len(s.t) else None
     def eat(s, x=None):
         t = s.at()
@@ -335,8 +335,12 @@ class P:
     def selection(s):
         t = s.eat(); head = [t, s.eat('('), s.expr(), s.eat(')'), s.block(s.statement)]
         if t == 'switch': return node('SelectionStatement', 2, *head)
-        if s.at() != 'else': return node('SelectionStatement', 0, *head)
-        return node('SelectionStatement', 1, *head, s.eat(), s.block(s.statement))
+        if s.at() != 'else' or s.i in s.lost: return node('SelectionStatement', 0, *head)
+        saved = s.save()
+        try: return node('SelectionStatement', 1, *head, s.eat(), s.block(s.statement))
+        except No:
+            # no statement derives after it: it goes with no `if`, this one or one around it
+            s.back(saved); s.lost.add(s.i); return node('SelectionStatement', 0, *head)
     def iteration(s):
         t = s.eat()
         if t == 'while': return node('IterationStatement', 0, t, s.eat('('), s.expr(), s.eat(')'), s.block(s.statement))

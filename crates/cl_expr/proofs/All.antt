@@ -227,7 +227,7 @@ pub same_class_is : (x y : Class) → class_number x ≡ class_number y → x �
 same_class_is x y e = some_class (sym (numbered_class x) ∙ ap (λ (n : ℕ). slice_get all_classes n) e ∙ numbered_class y)
 
 abbrev pub all_goals : List Nonterminal
-all_goals = nt.PrimaryExpression ∷ nt.GenericSelection ∷ nt.GenericAssocList ∷ nt.GenericAssociation ∷ nt.PostfixExpression ∷ nt.ArgumentExpressionList ∷ nt.UnaryExpression ∷ nt.UnaryOperator ∷ nt.CastExpression ∷ nt.MultiplicativeExpression ∷ nt.AdditiveExpression ∷ nt.ShiftExpression ∷ nt.RelationalExpression ∷ nt.EqualityExpression ∷ nt.AndExpression ∷ nt.ExclusiveOrExpression ∷ nt.InclusiveOrExpression ∷ nt.LogicalAndExpression ∷ nt.LogicalOrExpression ∷ nt.ConditionalExpression ∷ nt.AssignmentExpression ∷ nt.AssignmentOperator ∷ nt.Expression ∷ nt.ConstantExpression ∷ nt.Declaration ∷ nt.DeclarationSpecifiers ∷ nt.InitDeclaratorList ∷ nt.InitDeclarator ∷ nt.StorageClassSpecifier ∷ nt.TypeSpecifier ∷ nt.StructOrUnionSpecifier ∷ nt.StructOrUnion ∷ nt.StructDeclarationList ∷ nt.StructDeclaration ∷ nt.SpecifierQualifierList ∷ nt.StructDeclaratorList ∷ nt.StructDeclarator ∷ nt.EnumSpecifier ∷ nt.EnumeratorList ∷ nt.Enumerator ∷ nt.AtomicTypeSpecifier ∷ nt.TypeQualifier ∷ nt.FunctionSpecifier ∷ nt.AlignmentSpecifier ∷ nt.Declarator ∷ nt.DirectDeclarator ∷ nt.Pointer ∷ nt.TypeQualifierList ∷ nt.ParameterTypeList ∷ nt.ParameterList ∷ nt.ParameterDeclaration ∷ nt.IdentifierList ∷ nt.TypeName ∷ nt.AbstractDeclarator ∷ nt.DirectAbstractDeclarator ∷ nt.TypedefName ∷ nt.Initializer ∷ nt.InitializerList ∷ nt.Designation ∷ nt.DesignatorList ∷ nt.Designator ∷ nt.StaticAssertDeclaration ∷ nt.Statement ∷ nt.LabeledStatement ∷ nt.CompoundStatement ∷ nt.BlockItemList ∷ nt.BlockItem ∷ nt.ExpressionStatement ∷ nt.SelectionStatement ∷ nt.IterationStatement ∷ nt.JumpStatement ∷ nt.FunctionDefinition ∷ nt.OtherSpecifier ∷ nt.LaterTypeSpecifier ∷ nt.LaterSpecifier ∷ nt.LaterQualifier ∷ nt.ParameterDeclarator ∷ nt.DirectParameterDeclarator ∷ nt.AnyDeclarator ∷ nt.DirectAnyDeclarator ∷ nt.UnlabelledExpression ∷ nt.PlainExpression ∷ nt.BlockStatement ∷ nt.BlockExpressionStatement ∷ nt.BlockDeclaration ∷ nt.BlockSpecifiers ∷ nt.FunctionBody ∷ []
+all_goals = nt.PrimaryExpression ∷ nt.GenericSelection ∷ nt.GenericAssocList ∷ nt.GenericAssociation ∷ nt.PostfixExpression ∷ nt.ArgumentExpressionList ∷ nt.UnaryExpression ∷ nt.UnaryOperator ∷ nt.CastExpression ∷ nt.MultiplicativeExpression ∷ nt.AdditiveExpression ∷ nt.ShiftExpression ∷ nt.RelationalExpression ∷ nt.EqualityExpression ∷ nt.AndExpression ∷ nt.ExclusiveOrExpression ∷ nt.InclusiveOrExpression ∷ nt.LogicalAndExpression ∷ nt.LogicalOrExpression ∷ nt.ConditionalExpression ∷ nt.AssignmentExpression ∷ nt.AssignmentOperator ∷ nt.Expression ∷ nt.ConstantExpression ∷ nt.Declaration ∷ nt.DeclarationSpecifiers ∷ nt.InitDeclaratorList ∷ nt.InitDeclarator ∷ nt.StorageClassSpecifier ∷ nt.TypeSpecifier ∷ nt.StructOrUnionSpecifier ∷ nt.StructOrUnion ∷ nt.StructDeclarationList ∷ nt.StructDeclaration ∷ nt.SpecifierQualifierList ∷ nt.StructDeclaratorList ∷ nt.StructDeclarator ∷ nt.EnumSpecifier ∷ nt.EnumeratorList ∷ nt.Enumerator ∷ nt.AtomicTypeSpecifier ∷ nt.TypeQualifier ∷ nt.FunctionSpecifier ∷ nt.AlignmentSpecifier ∷ nt.Declarator ∷ nt.DirectDeclarator ∷ nt.Pointer ∷ nt.TypeQualifierList ∷ nt.ParameterTypeList ∷ nt.ParameterList ∷ nt.ParameterDeclaration ∷ nt.IdentifierList ∷ nt.TypeName ∷ nt.AbstractDeclarator ∷ nt.DirectAbstractDeclarator ∷ nt.TypedefName ∷ nt.Initializer ∷ nt.InitializerList ∷ nt.Designation ∷ nt.DesignatorList ∷ nt.Designator ∷ nt.StaticAssertDeclaration ∷ nt.Statement ∷ nt.LabeledStatement ∷ nt.CompoundStatement ∷ nt.BlockItemList ∷ nt.BlockItem ∷ nt.ExpressionStatement ∷ nt.SelectionStatement ∷ nt.IterationStatement ∷ nt.JumpStatement ∷ nt.FunctionDefinition ∷ nt.OtherSpecifier ∷ nt.LaterTypeSpecifier ∷ nt.LaterSpecifier ∷ nt.LaterQualifier ∷ nt.ParameterDeclarator ∷ nt.DirectParameterDeclarator ∷ nt.AnyDeclarator ∷ nt.DirectAnyDeclarator ∷ nt.ClosedStatement ∷ nt.OpenStatement ∷ nt.ClosedLabeledStatement ∷ nt.OpenLabeledStatement ∷ nt.ClosedSelectionStatement ∷ nt.OpenSelectionStatement ∷ nt.ClosedIterationStatement ∷ nt.OpenIterationStatement ∷ nt.UnlabelledExpression ∷ nt.PlainExpression ∷ nt.BlockStatement ∷ nt.BlockExpressionStatement ∷ nt.BlockDeclaration ∷ nt.BlockSpecifiers ∷ nt.FunctionBody ∷ []
 
 pub numbered_goal : (x : Nonterminal) → slice_get all_goals (number x) ≡ Some x
 numbered_goal nt.PrimaryExpression = refl
@@ -310,6 +310,14 @@ numbered_goal nt.ParameterDeclarator = refl
 numbered_goal nt.DirectParameterDeclarator = refl
 numbered_goal nt.AnyDeclarator = refl
 numbered_goal nt.DirectAnyDeclarator = refl
+numbered_goal nt.ClosedStatement = refl
+numbered_goal nt.OpenStatement = refl
+numbered_goal nt.ClosedLabeledStatement = refl
+numbered_goal nt.OpenLabeledStatement = refl
+numbered_goal nt.ClosedSelectionStatement = refl
+numbered_goal nt.OpenSelectionStatement = refl
+numbered_goal nt.ClosedIterationStatement = refl
+numbered_goal nt.OpenIterationStatement = refl
 numbered_goal nt.UnlabelledExpression = refl
 numbered_goal nt.PlainExpression = refl
 numbered_goal nt.BlockStatement = refl

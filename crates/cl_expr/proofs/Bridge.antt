@@ -515,7 +515,7 @@ derived_step cs h r g z sa t sw a =
         ap (λ (l : Label). l.choice) label,
         k.state,
         subst (λ (n : ℕ). d.Follows (Derived cs h) h cs o.made n sa (start t) (end t) (parts t) k.state) none fl.2,
-        (λ c token bar. k.ended.1 c token (subst (λ (v : List Class). Has v c) (sym o.bars_same) bar)),
+        (λ c token bar. (let l = k.ended.1 c token (subst (λ (v : List Class). Has v c) (sym o.bars_same) bar) in (l.0, λ u v d e. (let x = r.back nt.Statement _ u v d in l.1 u x.0 v x.1 e)))),
         subst (λ (b : Bool). sw ≡ leave b sa k.state) o.scoped_same k.leaves,
       ),
     )
@@ -668,7 +668,7 @@ kind_step cs h r g sa t sw a =
       (
         kinds_have g p.of a.2 z (own_kind z n w.behind p w.has is ends),
         of_kind cs h z sa t sw a.4.2 (subst (λ (b : Bool). sw ≡ leave b sa a.4.2) (sym l.2) a.4.5)
-            (l.0 ∙ ap Some label, λ c token bar. a.4.4 c token (subst (λ (v : List Class). Has v c) l.1 bar))
+            (l.0 ∙ ap Some label, λ c token bar. (let o = a.4.4 c token (subst (λ (v : List Class). Has v c) l.1 bar) in (o.0, λ u y v d e. o.1 u v (r.to nt.Statement y _ u v d) e)))
             (subst (λ (v : ℕ). Path (At cs h) h cs v sa (start t) (end t) (parts t) z a.4.2) home_is w.path),
         a.3,
       ),

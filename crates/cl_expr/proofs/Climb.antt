@@ -14,6 +14,7 @@ use Rattle.cl_tree.specs.declared.lexeme.Lexeme.{Lexeme}
 use Rattle.cl_tree.specs.declared.scope.Scope.{Scope}
 use Rattle.cl_tree.specs.Scopes.{class_at, leave}
 use Rattle.cl_expr.proofs.Bars.{all_open}
+use Rattle.cl_expr.proofs.Elses.{ended_fit}
 use Rattle.cl_expr.proofs.Within.{class_within}
 use Rattle.cl_expr.specs.code.Table.{name_of, scoped, flat, turn, home, corner, kinds, openers, suffixes, ends}
 use Rattle.cl_tree.specs.Derives.{Has, start, end, parts, Opened}
@@ -72,7 +73,7 @@ module _ (cs : List Lexeme) (h : ℕ) (sa : Scope) (g : Nonterminal) (at : ℕ) 
   pub entered : (t : Tree) (z : ℕ) (w : Scope) → Kind cs (suc h) z sa t w → start t ≡ at → First cs sa at (Enters (home z))
   entered t z w a e = (let k = kind_of cs h z sa t w a in go k.state (parts t) k.ended (subst (λ (i : ℕ). Path (At cs h) h cs (home z) sa i (end t) (parts t) z k.state) e k.path))
     where
-      go : (v : Scope) (ps : List Tree) → Ended cs v z (end t) (name t) → Path (At cs h) h cs (home z) sa at (end t) ps z v → First cs sa at (Enters (home z))
+      go : (v : Scope) (ps : List Tree) → Ended (At cs h) cs v z (end t) (name t) → Path (At cs h) h cs (home z) sa at (end t) ps z v → First cs sa at (Enters (home z))
       go v [] n p = absurd (no_name z (name t) (subst (λ (q : ℕ). name_of q ≡ Some (name t)) (sym p.1) n.0))
       go v (p ∷ ps) n path = path_enters cs h (home z) sa at (end t) p ps z v path
 
@@ -141,7 +142,7 @@ continues_le cs h k sa a y sb t z w le is c = record {
   parts_are = c.parts_are;
   path = path_fit cs h k c.rest c.cornered.next sb (end a) (end t) z w (flat_next (home z) c.cornered c.is is)
       (all_tall_le h k c.rest le (path_tall cs h c.rest c.cornered.next sb (end a) (end t) z w c.path)) c.path;
-  ended = c.ended;
+  ended = ended_fit cs h k w z (end t) (name t) is c.ended;
 }
 
 spine_le : (cs : List Lexeme) (h k : ℕ) (sa : Scope) (g : Nonterminal) {a : Tree} {y : ℕ} {sb : Scope} {t : Tree} {z : ℕ} {w : Scope} → h ≤ k → flat (home z) ≡ true → Spine cs h sa g a y sb t z w → Spine cs k sa g a y sb t z w
@@ -174,9 +175,9 @@ headed : (cs : List Lexeme) (h : ℕ) (sa : Scope) (t : Tree) (z : ℕ) (w : Sco
 headed cs h sa t z w c is a =
     let k = kind_of cs h z sa t w a in
     let state_is : k.state ≡ w = sym (k.leaves ∙ ap (λ (b : Bool). leave b sa k.state) (cornered_unscoped z c is)) in
-    go (parts t) refl (subst (λ (v : Scope). Ended cs v z (end t) (name t)) state_is k.ended) (subst (λ (v : Scope). Path (At cs h) h cs (home z) sa (start t) (end t) (parts t) z v) state_is k.path)
+    go (parts t) refl (subst (λ (v : Scope). Ended (At cs h) cs v z (end t) (name t)) state_is k.ended) (subst (λ (v : Scope). Path (At cs h) h cs (home z) sa (start t) (end t) (parts t) z v) state_is k.path)
   where
-    go : (ps : List Tree) → parts t ≡ ps → Ended cs w z (end t) (name t) → Path (At cs h) h cs (home z) sa (start t) (end t) ps z w → Headed cs h sa t z w
+    go : (ps : List Tree) → parts t ≡ ps → Ended (At cs h) cs w z (end t) (name t) → Path (At cs h) h cs (home z) sa (start t) (end t) ps z w → Headed cs h sa t z w
     go [] same ended p = absurd (no_name z (name t) (subst (λ (q : ℕ). name_of q ≡ Some (name t)) (sym p.1) ended.0))
     go (p ∷ ps) same ended path =
         let facts = cornered (home z) c is in

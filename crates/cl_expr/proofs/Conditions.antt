@@ -14,7 +14,7 @@ use Rattle.cl_expr.specs.declared.table.Edge.{Edge}
 use Rattle.cl_expr.specs.declared.table.Head.{Head}
 use Rattle.cl_expr.specs.declared.table.Ways.{Ways}
 use Rattle.cl_expr.specs.declared.table.Label.{Label}
-use Rattle.cl_expr.specs.code.Table.{Place, places, nowhere, place, goal, goals, number, edges, name_of, bars, scoped, flat, flat_goal, is_named, turning, turned, turn, home, corner, kinds, openers, suffixes, firsts, ends, goes, entry_classes}
+use Rattle.cl_expr.specs.code.Table.{Place, places, nowhere, place, goal, goals, number, edges, name_of, bars, scoped, flat, flat_goal, is_named, turning, turned, turn, home, corner, kinds, openers, suffixes, firsts, ends, goes, entry_classes, before_else}
 use Rattle.cl_tree.specs.Derives.{Has, barred}
 use Rattle.cl_expr.specs.code.Parses.{BeginsSymbol, Begins, Enters}
 use Rattle.cl_tree.specs.Grammar.{takes, shuns}
@@ -49,6 +49,9 @@ beginners_of (e ∷ es) = beginners e.before e.symbol ++ beginners_of es
 
 abbrev entering : ℕ → List Class
 entering q = beginners_of (edges q)
+
+abbrev is_else : Class → Bool
+is_else k = eqb (class_number k) (class_number cl.Else)
 
 abbrev goes_of : Symbol → List Class
 goes_of (Token c a) = []
@@ -131,7 +134,7 @@ abbrev c_on : ℕ → Bool
 c_on q = steps (λ e n. within (ends n) (ends q)) q
 
 abbrev c_held : ℕ → Bool
-c_held q = steps (λ e n. when (is_some (name_of n)) (every (λ k. among k (bars n) || among k (ends q)) (goes_of e.symbol))) q
+c_held q = steps (λ e n. when (is_some (name_of n)) (every (λ k. (among k (bars n) && not (is_else k)) || among k (ends q)) (goes_of e.symbol))) q
 
 abbrev c_shut : ℕ → Bool
 c_shut q = when (not (is_some (corner q))) (steps (λ e n. apart (entering n) (goes_of e.symbol)) q)
@@ -187,6 +190,10 @@ c_flat_goal g = when (flat_goal g) (every (λ z. flat (home z)) (kinds g))
 -- nothing goes on from a block, and it begins with a token
 abbrev c_scoped : ℕ → Bool
 c_scoped z = when (scoped z) (is_empty (ends (home z)) && not (is_some (corner (home z))))
+
+-- an `else` is barred at one place alone
+abbrev c_else : ℕ → Bool
+c_else q = when (among cl.Else (bars q)) (eqb (place_number q) before_else)
 
 abbrev reaches : Nonterminal → ℕ → Bool
 reaches g s = kind_in s (openers g) || kind_in s (suffixes g)
@@ -250,6 +257,11 @@ goals_entries : every (λ g. within (firsts g) entry_classes) all_goals ≡ true
 unfolding firsts goal goals entry_classes
 goals_entries = refl
 
+-- nothing goes on from a statement
+statement_goes : goes nt.Statement ≡ []
+unfolding goes goal goals
+statement_goes = refl
+
 entry_goes : goes nt.BlockItem ≡ []
 unfolding goes goal goals
 entry_goes = refl
@@ -298,6 +310,10 @@ places_open : every_place c_open ≡ true
 unfolding places place corner shuns
 places_open = refl
 
+places_else : every_place c_else ≡ true
+unfolding places place bars
+places_else = refl
+
 places_scoped : every_place c_scoped ≡ true
 unfolding places place scoped home ends corner
 places_scoped = refl
@@ -334,13 +350,14 @@ either q = go (slice_get places q) refl
 record Looks (q : ℕ) : Type 0 where
   edges_none : edges q ≡ []
   label_none : name_of q ≡ None
+  bars_none : bars q ≡ []
   corner_none : corner q ≡ None
   home_first : home q ≡ 0
   scoped_false : scoped q ≡ false
 
 looks : (q : ℕ) → place q ≡ nowhere → Looks q
-unfolding edges name_of corner home scoped
-looks q e = record { edges_none = ap (λ (p : Place). p.edges) e; label_none = ap (λ (p : Place). p.label) e; corner_none = ap (λ (p : Place). p.corner) e; home_first = ap (λ (p : Place). p.home) e; scoped_false = ap (λ (p : Place). p.scoped) e }
+unfolding edges name_of bars corner home scoped
+looks q e = record { edges_none = ap (λ (p : Place). p.edges) e; label_none = ap (λ (p : Place). p.label) e; bars_none = ap (λ (p : Place). barred p.bar) e; corner_none = ap (λ (p : Place). p.corner) e; home_first = ap (λ (p : Place). p.home) e; scoped_false = ap (λ (p : Place). p.scoped) e }
 
 first_unnamed : name_of 0 ≡ None
 unfolding places place name_of
@@ -365,6 +382,7 @@ record PlaceFacts (q : ℕ) : Type 0 where
   left : c_left q ≡ true
   opened : c_open q ≡ true
   scoped : c_scoped q ≡ true
+  elses : c_else q ≡ true
   flat : c_flat q ≡ true
   flat_left : c_flat_left q ≡ true
 
@@ -387,6 +405,7 @@ place_facts q = elim (either q) [
     left = rw l.corner_none refl;
     opened = rw l.corner_none refl;
     scoped = rw l.scoped_false refl;
+    elses = rw l.bars_none refl;
     flat = rw l.edges_none (when_always (flat q));
     flat_left = rw l.corner_none refl;
   })
@@ -403,6 +422,7 @@ place_facts q = elim (either q) [
     left = every_has c_left (numbers 0 places) places_left q h;
     opened = every_has c_open (numbers 0 places) places_open q h;
     scoped = every_has c_scoped (numbers 0 places) places_scoped q h;
+    elses = every_has c_else (numbers 0 places) places_else q h;
     flat = every_has c_flat (numbers 0 places) places_flat q h;
     flat_left = every_has c_flat_left (numbers 0 places) places_flat_left q h;
   }
@@ -453,14 +473,18 @@ on q e y k h w has =
 
 -- a token that goes on from a production's last part is known to
 pub held : (q : ℕ) (e : Edge) (g : Nonterminal) (y : ℕ) (k : Class) (n : Label) → Has (edges q) e → e.symbol ≡ Node g → Has (kinds g) y
-    → name_of (turn e.next y) ≡ Some n → (Has (bars (turn e.next y)) k → ⊥) → Has (goes g) k → Has (ends q) k
+    → name_of (turn e.next y) ≡ Some n → (Has (bars (turn e.next y)) k → k ≡ cl.Else) → Has (goes g) k → Has (ends q) k
 held q e g y k n h s w m b has =
-    let f = λ (d : Edge) (v : ℕ). when (is_some (name_of v)) (every (λ u. among u (bars v) || among u (ends q)) (goes_of d.symbol)) in
+    let f = λ (d : Edge) (v : ℕ). when (is_some (name_of v)) (every (λ u. (among u (bars v) && not (is_else u)) || among u (ends q)) (goes_of d.symbol)) in
     let t = when_use (is_some (name_of (turn e.next y))) _ (steps_use f q (place_facts q).held e y h) (some_true (name_of (turn e.next y)) n m) in
-    let t' : every (λ u. among u (bars (turn e.next y)) || among u (ends q)) (goes g) ≡ true
-    = subst (λ (x : Symbol). every (λ u. among u (bars (turn e.next y)) || among u (ends q)) (goes_of x) ≡ true) s t in
-    elim (or_cases (among k (bars (turn e.next y))) (among k (ends q)) (every_has (λ u. among u (bars (turn e.next y)) || among u (ends q)) (goes g) t' k has)) [
-      | inl x ↦ absurd (b (among_has k (bars (turn e.next y)) x))
+    let t' : every (λ u. (among u (bars (turn e.next y)) && not (is_else u)) || among u (ends q)) (goes g) ≡ true
+    = subst (λ (x : Symbol). every (λ u. (among u (bars (turn e.next y)) && not (is_else u)) || among u (ends q)) (goes_of x) ≡ true) s t in
+    elim (or_cases (among k (bars (turn e.next y)) && not (is_else k)) (among k (ends q))
+    (every_has (λ u. (among u (bars (turn e.next y)) && not (is_else u)) || among u (ends q)) (goes g) t' k has)) [
+      | inl x ↦ (
+          let o = and_parts (among k (bars (turn e.next y))) (not (is_else k)) x in
+          let same : k ≡ cl.Else = b (among_has k (bars (turn e.next y)) o.0) in
+          absurd (not_use (is_else k) o.1 (subst (λ (u : Class). is_else u ≡ true) (sym same) refl)))
       | inr z ↦ among_has k (ends q) z
     ]
 
@@ -579,6 +603,9 @@ firsts_entry g k has =
 pub entry_stops : (k : Class) → Has (goes nt.BlockItem) k → ⊥
 entry_stops k has = none_not (subst (λ (v : List Class). slice_get v has.0 ≡ Some k) entry_goes has.1)
 
+pub statement_stops : (k : Class) → Has (goes nt.Statement) k → ⊥
+statement_stops k has = none_not (subst (λ (v : List Class). slice_get v has.0 ≡ Some k) statement_goes has.1)
+
 pub left_flat : (s : ℕ) (c : Head) → corner s ≡ Some c → flat_goal c.goal ≡ true
 left_flat s c e = on_some_use (λ d. flat_goal d.goal) (corner s) c e (place_facts s).flat_left
 
@@ -680,3 +707,6 @@ goes_suffix g s y k h n w =
     let f = λ (d : Head). when (meets (kinds d.goal) (kinds g)) (within (entering d.next) (goes g)) in
     let t : f n.head ≡ true = on_some_use f (corner s) n.head n.is (every_has (λ v. on_some f (corner v)) (suffixes g) (goal_facts g).goes s h) in
     within_use (entering n.head.next) (goes g) k (when_use (meets (kinds n.head.goal) (kinds g)) _ t (meets_use (kinds n.head.goal) (kinds g) y n.takes w)) (enters_among n.head.next k n.enters)
+
+pub else_place : (q : ℕ) → Has (bars q) cl.Else → q ≡ before_else
+else_place q has = same_place_is q before_else (eqb-true (place_number q) before_else (when_use (among cl.Else (bars q)) _ (place_facts q).elses (has_among cl.Else (bars q) has)))

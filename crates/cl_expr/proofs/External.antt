@@ -118,7 +118,7 @@ module _ (cs : List Lexeme) (h : ℕ) (ok : Symbol → Bool) (z : ℕ) (f : (q :
   kind_last : (s : Scope) (t : Tree) (w : Scope) → Kind cs (suc h) z s t w → Last cs h (end t) ok
   kind_last s t w a = (let k = kind_of cs h z s t w a in go k.state (parts t) k.ended k.path)
     where
-      go : (v : Scope) (ps : List Tree) → Ended cs v z (end t) (name t) → Path (At cs h) h cs (home z) s (start t) (end t) ps z v → Last cs h (end t) ok
+      go : (v : Scope) (ps : List Tree) → Ended (At cs h) cs v z (end t) (name t) → Path (At cs h) h cs (home z) s (start t) (end t) ps z v → Last cs h (end t) ok
       go v [] ended p = absurd (no_name z (name t) (subst (λ (q : ℕ). name_of q ≡ Some (name t)) (sym p.1) ended.0))
       go v (p ∷ ps) ended path = path_last ps p (home z) s (start t) (end t) v path
 

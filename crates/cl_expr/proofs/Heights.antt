@@ -17,20 +17,21 @@ use Rattle.cl_expr.specs.code.Table.{name_of, scoped, flat, turn, home, kinds, f
 use Rattle.cl_tree.specs.Derives.{Has, start, end, parts, leaf, Opened, bad}
 use Rattle.cl_expr.specs.code.Paths.{name, node, Ended, Reads, ReadsAfter, Path, Kind, At}
 use Rattle.cl_expr.specs.code.Parses.{AllOf, Tall, BeginsSymbol, Begins, Enters}
+use Rattle.cl_expr.proofs.Elses.{ended_fit}
 use Rattle.cl_expr.proofs.Conditions.{no_name, firsts_have, symbol_flat, flat_kind, flat_edge, entry_class, firsts_entry}
 
 -- a tree of a kind from within: what is declared at its end, and its parts
 pub record Inside (cs : List Lexeme) (h : ℕ) (z : ℕ) (sa : Scope) (t : Tree) (sw : Scope) : Type 0 where
   pub state : Scope
   pub leaves : sw ≡ leave (scoped z) sa state
-  pub ended : Ended cs state z (end t) (name t)
+  pub ended : Ended (At cs h) cs state z (end t) (name t)
   pub path : Path (At cs h) h cs (home z) sa (start t) (end t) (parts t) z state
 
 pub kind_of : (cs : List Lexeme) (h : ℕ) (z : ℕ) (sa : Scope) (t : Tree) (sw : Scope) → Kind cs (suc h) z sa t sw → Inside cs h z sa t sw
 unfolding Kind
 kind_of cs h z sa t sw a = record { state = a.0; leaves = a.1; ended = a.2; path = a.3 }
 
-pub of_kind : (cs : List Lexeme) (h : ℕ) (z : ℕ) (sa : Scope) (t : Tree) (sw sv : Scope) → sw ≡ leave (scoped z) sa sv → Ended cs sv z (end t) (name t)
+pub of_kind : (cs : List Lexeme) (h : ℕ) (z : ℕ) (sa : Scope) (t : Tree) (sw sv : Scope) → sw ≡ leave (scoped z) sa sv → Ended (At cs h) cs sv z (end t) (name t)
     → Path (At cs h) h cs (home z) sa (start t) (end t) (parts t) z sv → Kind cs (suc h) z sa t sw
 unfolding Kind
 of_kind cs h z sa t sw sv l e p = (sv, l, e, p)
@@ -92,7 +93,7 @@ kind_tall cs (suc h) z sa t sw a =
 pub path_tall : (cs : List Lexeme) (h : ℕ) (ps : List Tree) (q : ℕ) (sa : Scope) (at to : ℕ) (z : ℕ) (v : Scope) → Path (At cs h) h cs q sa at to ps z v → AllOf (Tall h) ps
 path_tall cs h ps q sa at to z v s = tall_path cs h (λ y s' p w' b. kind_tall cs h y s' p w' b) ps q sa at to z v s
 
-tall_some : (k : ℕ) (t : Tree) → Tall k t → 1 ≤ k
+pub tall_some : (k : ℕ) (t : Tree) → Tall k t → 1 ≤ k
 tall_some zero t a = absurd (tall_zero t a)
 tall_some (suc k) t a = omega arith
 
@@ -131,7 +132,7 @@ kind_fit cs h zero z sa t sw is tall a = absurd (tall_zero t tall)
 kind_fit cs zero (suc k) z sa t sw is tall a = absurd (kind_flat cs z sa t sw a)
 kind_fit cs (suc h) (suc k) z sa t sw is tall a =
     let i = kind_of cs h z sa t sw a in
-    of_kind cs k z sa t sw i.state i.leaves i.ended
+    of_kind cs k z sa t sw i.state i.leaves (ended_fit cs h k i.state z (end t) (name t) is i.ended)
     (fit_path cs h k (λ y s' p w' fl tl b. kind_fit cs h k y s' p w' fl tl b) (parts t) (home z) sa (start t) (end t) z i.state is (tall_parts k t tall) i.path)
 
 pub path_fit : (cs : List Lexeme) (h k : ℕ) (ps : List Tree) (q : ℕ) (sa : Scope) (at to : ℕ) (z : ℕ) (sv : Scope) → flat q ≡ true → AllOf (Tall k) ps → Path (At cs h) h cs q sa at to ps z sv
@@ -164,7 +165,7 @@ reads_by cs h f None x y sa at p sw r = symbol_by cs h f x y sa at p sw r
 reads_by cs h f (Some b) x y sa at p sw r = record { class = b.class; token = r.0; begins = refl }
 
 begins_by : (cs : List Lexeme) (h : ℕ) → FirstOf cs h
-    → (g : Nonterminal) (z : ℕ) (sa : Scope) (at to : ℕ) (n : Label) (sv : Scope) → Has (kinds g) z → Opened cs g sa at → (ps : List Tree) → Ended cs sv z to n → Path (At cs h) h cs (home z) sa at to ps z sv → First cs sa at (Has (firsts g))
+    → (g : Nonterminal) (z : ℕ) (sa : Scope) (at to : ℕ) (n : Label) (sv : Scope) → Has (kinds g) z → Opened cs g sa at → (ps : List Tree) → Ended (At cs h) cs sv z to n → Path (At cs h) h cs (home z) sa at to ps z sv → First cs sa at (Has (firsts g))
 begins_by cs h f g z sa at to n sv k begun [] e s = absurd (no_name z n (subst (λ (q : ℕ). name_of q ≡ Some n) (sym s.1) e.0))
 begins_by cs h f g z sa at to n sv k begun (p ∷ ps) e s =
     let o = reads_by cs h f s.0.before s.0.symbol s.1 sa at p s.2 s.4 in

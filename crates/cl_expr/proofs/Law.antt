@@ -22,7 +22,8 @@ use Rattle.cl_expr.specs.code.Parses.{Begins, Enters, Stops, Halts, StopsSymbol,
 use Rattle.cl_expr.proofs.Checks.{some_is}
 use Rattle.cl_expr.proofs.Conditions.{Way, one_edge, more, on, held, shut, plain_next, cornered, reach, one_opener, opener, one_suffix, goes_suffix, top, entry_stops}
 use Rattle.cl_expr.proofs.Heights.{kind_of, kind_flat, path_enters, reads_first, node_is}
-use Rattle.cl_expr.proofs.Reading.{way_of}
+use Rattle.cl_expr.proofs.Dangling.{lost_stops}
+use Rattle.cl_expr.proofs.Reading.{way_of, ended_here}
 use Rattle.cl_expr.proofs.Climb.{corner_of, entered, inner_halts, continued, continues_goes}
 
 -- two trees of a nonterminal from one place and one state are the same, also in kind and in the state after them
@@ -42,13 +43,13 @@ module _ (cs : List Lexeme) (h : ℕ) (one : One cs h) where
 
   -- what a whole path says of its first part
   stops_first : (q : ℕ) (e : Edge) (s : Symbol) → corner q ≡ None → Has (edges q) e → e.symbol ≡ s → (y : ℕ) (sx : Scope) (at to : ℕ) (rest : List Tree) (z : ℕ) (sv : Scope) (n : Label) → Way s y
-      → Path (At cs h) h cs (turn e.next y) sx at to rest z sv → Ended cs sv z to n → Halts cs sv q to → StopsSymbol cs sx s at
+      → Path (At cs h) h cs (turn e.next y) sx at to rest z sv → Ended (At cs h) cs sv z to n → Halts cs sv q to → StopsSymbol cs sx s at
   stops_first q e (Token c a) plain has is y sx at to rest z sv n w p ended halts = tt
   stops_first q e Entry plain has is y sx at to rest z sv n w p ended halts = tt
   stops_first q e (Node g) plain has is y sx at to [] z sv n w p ended halts = λ k t goes.
       halts k (at_end sx sv at to k p.0 p.2 t)
       (held q e g y k n has is w (subst (λ (v : ℕ). name_of v ≡ Some n) (sym p.1) ended.0)
-      (λ b. ended.1 k (at_end sx sv at to k p.0 p.2 t) (subst (λ (v : ℕ). Has (bars v) k) p.1 b)) goes)
+      (λ b. (ended.1 k (at_end sx sv at to k p.0 p.2 t) (subst (λ (v : ℕ). Has (bars v) k) p.1 b)).0) goes)
   stops_first q e (Node g) plain has is y sx at to (p2 ∷ rest) z sv n w p ended halts = λ k t goes. (
       let f = path_enters cs h (turn e.next y) sx at to p2 rest z sv p in
       let same : f.class ≡ k = some_is (sym f.token ∙ t) in
@@ -70,19 +71,20 @@ module _ (cs : List Lexeme) (h : ℕ) (one : One cs h) where
   one_part (Some o) s y x sm at p r sp sr a b e e' = one_symbol s y x (pass cs sm o.act at) (at + 1) p r sp sr a.1 b.1 e e'
 
   -- where one path ends and another goes on
-  no_end : (q : ℕ) (sm : Scope) (at to to' : ℕ) (z x : ℕ) (sv sx : Scope) (n : Label) (r : Tree) (rs : List Tree) → (at ≡ to) × (q ≡ z) × (sm ≡ sv) → Ended cs sv z to n → Halts cs sv q to
-      → Path (At cs h) h cs q sm at to' (r ∷ rs) x sx → ⊥
-  no_end q sm at to to' z x sv sx n r rs p ended halts b =
+  no_end : (q : ℕ) (sm : Scope) (at to to' : ℕ) (z x : ℕ) (sv sx : Scope) (n m : Label) (r : Tree) (rs : List Tree) → (at ≡ to) × (q ≡ z) × (sm ≡ sv) → Ended (At cs h) cs sv z to n → Halts cs sv q to
+      → Path (At cs h) h cs q sm at to' (r ∷ rs) x sx → Ended (At cs h) cs sx x to' m → ⊥
+  no_end q sm at to to' z x sv sx n m r rs p ended halts b ended' =
       let f = path_enters cs h q sm at to' r rs x sx b in
-      let token : class_at cs sv to ≡ Some f.class = at_end sm sv at to f.class p.0 p.2 f.token in
-      halts f.class token (more q f.class n f.begins (subst (λ (v : ℕ). name_of v ≡ Some n) (sym p.1) ended.0)
-      (λ bar. ended.1 f.class token (subst (λ (v : ℕ). Has (bars v) f.class) p.1 bar)))
+      let here = ended_here cs h q sm at to z sv n p ended in
+      halts f.class (at_end sm sv at to f.class p.0 p.2 f.token) (more q f.class n f.begins here.0 (λ bar. (
+      let lost = here.1 f.class f.token bar in
+      lost_stops cs h sm at q to' r rs x sx m (subst (Has (bars q)) lost.0 bar) (refl, lost.1) b ended')))
 
   one_path : (ps rs : List Tree) (q : ℕ) (sm : Scope) (at to to' : ℕ) (z x : ℕ) (sv sx : Scope) (n m : Label) → corner q ≡ None → Path (At cs h) h cs q sm at to ps z sv → Path (At cs h) h cs q sm at to' rs x sx
-      → Ended cs sv z to n → Ended cs sx x to' m → Halts cs sv q to → Halts cs sx q to' → (ps ≡ rs) × (to ≡ to') × (z ≡ x) × (sv ≡ sx)
+      → Ended (At cs h) cs sv z to n → Ended (At cs h) cs sx x to' m → Halts cs sv q to → Halts cs sx q to' → (ps ≡ rs) × (to ≡ to') × (z ≡ x) × (sv ≡ sx)
   one_path [] [] q sm at to to' z x sv sx n m plain a b ea eb ha hb = (refl, sym a.0 ∙ b.0, sym a.1 ∙ b.1, sym a.2 ∙ b.2)
-  one_path [] (r ∷ rs) q sm at to to' z x sv sx n m plain a b ea eb ha hb = absurd (no_end q sm at to to' z x sv sx n r rs a ea ha b)
-  one_path (p ∷ ps) [] q sm at to to' z x sv sx n m plain a b ea eb ha hb = absurd (no_end q sm at to' to x z sx sv m p ps b eb hb a)
+  one_path [] (r ∷ rs) q sm at to to' z x sv sx n m plain a b ea eb ha hb = absurd (no_end q sm at to to' z x sv sx n m r rs a ea ha b eb)
+  one_path (p ∷ ps) [] q sm at to to' z x sv sx n m plain a b ea eb ha hb = absurd (no_end q sm at to' to x z sx sv m n p ps b eb hb a ea)
   one_path (p ∷ ps) (r ∷ rs) q sm at to to' z x sv sx n m plain a b ea eb ha hb =
       let f = reads_first cs h a.0.before a.0.symbol a.1 sm at p a.2 a.4 in
       let g = reads_first cs h b.0.before b.0.symbol b.1 sm at r b.2 b.4 in

@@ -4,6 +4,9 @@ mod Bridge
 mod Checks
 mod Climb
 mod Conditions
+mod Dangling
+mod Elses
+mod Endings
 mod External
 mod Growth
 mod Heights
@@ -11,4 +14,5 @@ mod Law
 mod Reading
 mod Rows
 mod Scans
+mod WithElse
 mod Within

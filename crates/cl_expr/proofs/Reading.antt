@@ -24,8 +24,8 @@ use Rattle.cl_expr.proofs.Within.{class_within}
 use Rattle.cl_expr.specs.code.Table.{edges, name_of, bars, scoped, turn, home, corner}
 use Rattle.cl_tree.specs.Derives.{Has, start, end, parts, leaf, Opened, bad}
 use Rattle.cl_tree.specs.BadItems.{closes_at, bad_end}
-use Rattle.cl_expr.specs.code.Paths.{name, node, Ended, Reads, ReadsAfter, Path, At}
-use Rattle.cl_expr.specs.code.Parses.{AllOf, Tall, Begins, Enters, Halts, StopsSymbol, Parses, SoundPart, Part, Half, Builds}
+use Rattle.cl_expr.specs.code.Paths.{name, node, Ended, Lost, Reads, ReadsAfter, Path, At}
+use Rattle.cl_expr.specs.code.Parses.{AllOf, Tall, Begins, Enters, Halts, StopsSymbol, Parses, SoundPart, Part, Half, Builds, Ends, Stuck, Gives}
 use Rattle.cl_expr.proofs.Checks.{some_is}
 use Rattle.cl_expr.proofs.Conditions.{Way, one_edge, more, on, held, shut, home_next, plain_next, entry_open, firsts_entry, entry_stops}
 use Rattle.cl_expr.proofs.Heights.{of_kind, tall_le, all_tall_le, tall_leaf, tall_bad, end_bad, first_class, kind_flat, of_parts, path_enters, reads_first, end_leaf, tall_zero, tall_parts}
@@ -199,11 +199,16 @@ pub record Left (cs : List Lexeme) (h : ℕ) (sm : Scope) (q : ℕ) (ps : List T
 -- what has been read from a place on; sa before the node, s0 at the first place, sm here
 pub record Reading (cs : List Lexeme) (h : ℕ) (sa s0 : Scope) (q0 : ℕ) (ps0 : List Tree) (from mid0 : ℕ) (sm : Scope) (q : ℕ) (ps : List Tree) (mid height : ℕ) : Type 0 where
   pub half : Half cs h sa sm q ps from mid height
-  pub goes_on : (to : ℕ) (rest : List Tree) (z : ℕ) (sv : Scope) (n : Label) → Path (At cs h) h cs q0 s0 mid0 to rest z sv → Ended cs sv z to n → Halts cs sv q0 to
+  pub goes_on : (to : ℕ) (rest : List Tree) (z : ℕ) (sv : Scope) (n : Label) → Path (At cs h) h cs q0 s0 mid0 to rest z sv → Ended (At cs h) cs sv z to n → Halts cs sv q0 to
       → Left cs h sm q ps mid to (ps0 ++ rest) z sv
   pub ahead : (q ≡ q0) ⊎ (mid0 < mid)
   pub after : mid0 ≤ mid
   pub above0 : from ≤ mid0
+
+-- a reading that ends here, as of here
+pub ended_here : (cs : List Lexeme) (h : ℕ) (q : ℕ) (sm : Scope) (mid to z : ℕ) (sv : Scope) (n : Label) → (mid ≡ to) × (q ≡ z) × (sm ≡ sv) → Ended (At cs h) cs sv z to n → Ended (At cs h) cs sm q mid n
+ended_here cs h q sm mid to z sv n p ended =
+    subst (λ (i : ℕ). Ended (At cs h) cs sm q i n) (sym p.0) (subst (λ (v : ℕ). Ended (At cs h) cs sm v to n) (sym p.1) (subst (λ (x : Scope). Ended (At cs h) cs x z to n) (sym p.2) ended))
 
 pub reading_start : (cs : List Lexeme) (h : ℕ) (sa sm : Scope) (q : ℕ) (ps : List Tree) (from mid height : ℕ) → Half cs h sa sm q ps from mid height → Reading cs h sa sm q ps from mid sm q ps mid height
 reading_start cs h sa sm q ps from mid height half = record {
@@ -215,7 +220,7 @@ reading_start cs h sa sm q ps from mid height half = record {
 }
 
 module _ (cs : List Lexeme) (h : ℕ) (sa s0 : Scope) (q0 : ℕ) (ps0 : List Tree) (from mid0 : ℕ) (sm : Scope) (q : ℕ) (ps : List Tree) (mid height : ℕ) (r : Reading cs h sa s0 q0 ps0 from mid0 sm q ps mid height) where
-  module _ (e : Edge) (k : Class) (has : Has (edges q) e) (token : class_at cs sm mid ≡ Some k) (begins : Begins e.before e.symbol k) where
+  module _ (e : Edge) (k : Class) (has : Has (edges q) e) (token : class_at cs sm mid ≡ Some k) (begins : Begins e.before e.symbol k) (free : Has (bars q) k → Lost (At cs h) cs k sm mid → ⊥) where
     -- the next part of a whole reading
     record Next (to : ℕ) (whole : List Tree) (z : ℕ) (sv : Scope) : Type 0 where
       part : Tree
@@ -233,23 +238,22 @@ module _ (cs : List Lexeme) (h : ℕ) (sa s0 : Scope) (q0 : ℕ) (ps0 : List Tre
     at_end sx sv at to k' p o t = subst (λ (i : ℕ). class_at cs sv i ≡ Some k') p (subst (λ (x : Scope). class_at cs x at ≡ Some k') o t)
 
     stops_part : (s : Symbol) → e.symbol ≡ s → (y : ℕ) (sx : Scope) (at to : ℕ) (rest : List Tree) (z : ℕ) (sv : Scope) (n : Label) → Way s y
-        → Path (At cs h) h cs (turn e.next y) sx at to rest z sv → Ended cs sv z to n → Halts cs sv q to → StopsSymbol cs sx s at
+        → Path (At cs h) h cs (turn e.next y) sx at to rest z sv → Ended (At cs h) cs sv z to n → Halts cs sv q to → StopsSymbol cs sx s at
     stops_part (Token c a) is y sx at to rest z sv n w p ended halts = tt
     stops_part Entry is y sx at to rest z sv n w p ended halts = tt
     stops_part (Node g) is y sx at to [] z sv n w p ended halts = λ k' t goes.
         halts k' (at_end sx sv at to k' p.0 p.2 t)
         (held q e g y k' n has is w (subst (λ (v : ℕ). name_of v ≡ Some n) (sym p.1) ended.0)
-        (λ b. ended.1 k' (at_end sx sv at to k' p.0 p.2 t) (subst (λ (v : ℕ). Has (bars v) k') p.1 b)) goes)
+        (λ b. (ended.1 k' (at_end sx sv at to k' p.0 p.2 t) (subst (λ (v : ℕ). Has (bars v) k') p.1 b)).0) goes)
     stops_part (Node g) is y sx at to (p2 ∷ rest) z sv n w p ended halts = λ k' t goes. (
         let f = path_enters cs h (turn e.next y) sx at to p2 rest z sv p in
         let same : f.class ≡ k' = some_is (sym f.token ∙ t) in
         shut q e g y k' r.half.plain has is w (subst (Enters (turn e.next y)) same f.begins) goes)
 
-    next_of : (to : ℕ) (whole : List Tree) (z : ℕ) (sv : Scope) (n : Label) → Ended cs sv z to n → (rest : List Tree) → whole ≡ ps ++ rest → Path (At cs h) h cs q sm mid to rest z sv → Halts cs sv q to → Next to whole z sv
+    next_of : (to : ℕ) (whole : List Tree) (z : ℕ) (sv : Scope) (n : Label) → Ended (At cs h) cs sv z to n → (rest : List Tree) → whole ≡ ps ++ rest → Path (At cs h) h cs q sm mid to rest z sv → Halts cs sv q to → Next to whole z sv
     next_of to whole z sv n ended [] joined p halts =
-        absurd (halts k (at_end sm sv mid to k p.0 p.2 token)
-        (more q k n (e, has, begins) (subst (λ (v : ℕ). name_of v ≡ Some n) (sym p.1) ended.0)
-        (λ b. ended.1 k (at_end sm sv mid to k p.0 p.2 token) (subst (λ (v : ℕ). Has (bars v) k) p.1 b))))
+        let here = ended_here cs h q sm mid to z sv n p ended in
+        absurd (halts k (at_end sm sv mid to k p.0 p.2 token) (more q k n (e, has, begins) here.0 (λ b. free b (here.1 k token b))))
     next_of to whole z sv n ended (t ∷ rest) joined p halts =
         let f = reads_first cs h p.0.before p.0.symbol p.1 sm mid t p.2 p.4 in
         let class_is : f.class ≡ k = some_is (sym f.token ∙ token) in
@@ -269,7 +273,7 @@ module _ (cs : List Lexeme) (h : ℕ) (sa s0 : Scope) (q0 : ℕ) (ps0 : List Tre
           stops = stops_part e.symbol refl p.1 p.2 (end t) to rest z sv n way path ended halts;
         }
 
-    next : (to : ℕ) (rest : List Tree) (z : ℕ) (sv : Scope) (n : Label) → Path (At cs h) h cs q0 s0 mid0 to rest z sv → Ended cs sv z to n → Halts cs sv q0 to → Next to (ps0 ++ rest) z sv
+    next : (to : ℕ) (rest : List Tree) (z : ℕ) (sv : Scope) (n : Label) → Path (At cs h) h cs q0 s0 mid0 to rest z sv → Ended (At cs h) cs sv z to n → Halts cs sv q0 to → Next to (ps0 ++ rest) z sv
     next to rest z sv n p ended halts = let l = r.goes_on to rest z sv n p ended halts in next_of to (ps0 ++ rest) z sv n ended l.rest l.joined l.path l.halts
 
     pub reading_stuck : Part cs h sm e.before e.symbol mid None → Builds cs h sa s0 q0 ps0 from mid0 None
@@ -324,73 +328,100 @@ module _ (cs : List Lexeme) (h : ℕ) (sa s0 : Scope) (q0 : ℕ) (ps0 : List Tre
               halts = subst (λ (v : ℕ). Halts cs sv v to) place_is halts;
             }
 
-  module _ (nothing : (k : Class) → class_at cs sm mid ≡ Some k → Enters q k → ⊥) where
-    -- a whole reading ends here
-    record Over (to : ℕ) (whole : List Tree) (z : ℕ) (sv : Scope) : Type 0 where
-      joined : whole ≡ ps
-      at : mid ≡ to
-      place : q ≡ z
-      state : sm ≡ sv
+-- a node that ends at a place, from there
+module _ (cs : List Lexeme) (h : ℕ) (sa sm : Scope) (q : ℕ) (ps : List Tree) (from mid height : ℕ) (half : Half cs h sa sm q ps from mid height) (stuck : Stuck cs h sm q mid) where
+  -- nothing more is read
+  record Over (to : ℕ) (rest : List Tree) (z : ℕ) (sv : Scope) : Type 0 where
+    joined : rest ≡ []
+    at : mid ≡ to
+    place : q ≡ z
+    state : sm ≡ sv
 
-    over : (to : ℕ) (rest : List Tree) (z : ℕ) (sv : Scope) (n : Label) → Path (At cs h) h cs q0 s0 mid0 to rest z sv → Ended cs sv z to n → Halts cs sv q0 to → Over to (ps0 ++ rest) z sv
-    over to rest z sv n p ended halts = let l = r.goes_on to rest z sv n p ended halts in go l.rest l.joined l.path
-      where
-        go : (rest' : List Tree) → ps0 ++ rest ≡ ps ++ rest' → Path (At cs h) h cs q sm mid to rest' z sv → Over to (ps0 ++ rest) z sv
-        go [] joined path = record { joined = joined ∙ append-nil ps; at = path.0; place = path.1; state = path.2 }
-        go (t ∷ rest') joined path = (let f = path_enters cs h q sm mid to t rest' z sv path in absurd (nothing f.class f.token f.begins))
+  over : (to : ℕ) (rest : List Tree) (z : ℕ) (sv : Scope) (n : Label) → Path (At cs h) h cs q sm mid to rest z sv → Ended (At cs h) cs sv z to n → Over to rest z sv
+  over to [] z sv n path ended = record { joined = refl; at = path.0; place = path.1; state = path.2 }
+  over to (t ∷ rest) z sv n path ended = absurd (stuck to t rest z sv n path ended)
 
-    pub unnamed_end : name_of q ≡ None → Builds cs h sa s0 q0 ps0 from mid0 None
-    unnamed_end none = record {
-      found = tt;
-      only = λ to rest z sv n p ended halts. (let o = over to rest z sv n p ended halts in none_not (sym none ∙ ap name_of o.place ∙ ended.0));
-    }
+  pub node_unnamed : name_of q ≡ None → Ends cs h sa sm q ps from mid None
+  node_unnamed none = record {
+    found = tt;
+    only = λ to rest z sv n path ended halts. (let o = over to rest z sv n path ended in none_not (sym none ∙ ap name_of o.place ∙ ended.0));
+  }
 
-    pub barred_end : (k : Class) → class_at cs sm mid ≡ Some k → Has (bars q) k → Builds cs h sa s0 q0 ps0 from mid0 None
-    barred_end k token bar = record {
-      found = tt;
-      only = λ to rest z sv n p ended halts. (let o = over to rest z sv n p ended halts in
-          ended.1 k (subst (λ (i : ℕ). class_at cs sv i ≡ Some k) o.at (subst (λ (x : Scope). class_at cs x mid ≡ Some k) o.state token)) (subst (λ (v : ℕ). Has (bars v) k) o.place bar));
-    }
+  pub node_ended : (n : Label) → from < mid → Ended (At cs h) cs sm q mid n
+      → Ends cs h sa sm q ps from mid (Some (record { tree = node n from mid ps; place = q; scope = leave (scoped q) sa sm; height = height + 1 }))
+  node_ended n grows ended =
+      let low : height ≤ h = half.high in
+      let path : Path (At cs h) h cs (home q) sa from mid (ps ++ []) q sm = half.joins mid [] q sm (refl, refl, refl) in
+      let path' : Path (At cs h) h cs (home q) sa from mid ps q sm = subst (λ (v : List Tree). Path (At cs h) h cs (home q) sa from mid v q sm) (append-nil ps) path in
+      record {
+        found = (
+          record {
+            kind = of_kind cs h q sa (node n from mid ps) (leave (scoped q) sa sm) sm refl whole_ended (whole_path path');
+            tall = subst (λ (i : ℕ). Tall i (node n from mid ps)) (omega arith)
+                (of_parts height (node n from mid ps) (subst (λ (x : Tree-F Tree). AllOf (Tall height) x.parts) (sym rolled) half.tall));
+            grows = subst (λ (x : Tree-F Tree). x.from < x.to) (sym rolled) grows;
+            within = subst (λ (x : Tree-F Tree). x.to ≤ length cs) (sym rolled) half.within;
+            least = whole_least;
+            high = omega arith;
+          },
+          ap (λ x. x.from) rolled,
+          subst (λ (x : Tree-F Tree). mid ≤ x.to) (sym rolled) (omega arith),
+          λ none. none_not (sym none ∙ ended.0),
+        );
+        only = λ to rest z sv n' path ended' halts. (let o = over to rest z sv n' path ended' in
+            let name_is : n ≡ n' = some_is (sym ended.0 ∙ ap name_of o.place ∙ ended'.0) in
+            let parts_are : ps ≡ ps ++ rest = sym (append-nil ps) ∙ ap (λ (v : List Tree). ps ++ v) (sym o.joined) in
+            ((λ i. node (name_is i) from (o.at i) (parts_are i)), o.place, (λ i. leave (scoped (o.place i)) sa (o.state i))));
+      }
+    where
+      rolled : out-Tree (node n from mid ps) ≡ record { rule = n.rule; choice = n.choice; from = from; to = mid; parts = ps }
+      rolled = out-roll-Tree (record { rule = n.rule; choice = n.choice; from = from; to = mid; parts = ps })
 
-    pub reading_end : (n : Label) → name_of q0 ≡ None → Ended cs sm q mid n
-        → Builds cs h sa s0 q0 ps0 from mid0 (Some (record { tree = node n from mid ps; place = q; scope = leave (scoped q) sa sm; height = height + 1 }))
-    reading_end n unnamed ended =
-        let low : height ≤ h = r.half.high in
-        let path : Path (At cs h) h cs (home q) sa from mid (ps ++ []) q sm = r.half.joins mid [] q sm (refl, refl, refl) in
-        let path' : Path (At cs h) h cs (home q) sa from mid ps q sm = subst (λ (v : List Tree). Path (At cs h) h cs (home q) sa from mid v q sm) (append-nil ps) path in
-        let strict : mid0 < mid = further r.ahead in
-        record {
-          found = (
-            record {
-              kind = of_kind cs h q sa (node n from mid ps) (leave (scoped q) sa sm) sm refl (whole_ended) (whole_path path');
-              tall = subst (λ (i : ℕ). Tall i (node n from mid ps)) (omega arith)
-                  (of_parts height (node n from mid ps) (subst (λ (x : Tree-F Tree). AllOf (Tall height) x.parts) (sym rolled) r.half.tall));
-              grows = subst (λ (x : Tree-F Tree). x.from < x.to) (sym rolled) (omega (arith, r.above0));
-              within = subst (λ (x : Tree-F Tree). x.to ≤ length cs) (sym rolled) r.half.within;
-              least = whole_least;
-              high = omega arith;
-            },
-            ap (λ x. x.from) rolled,
-            subst (λ (x : Tree-F Tree). mid0 < x.to) (sym rolled) strict,
-          );
-          only = λ to rest z sv n' p ended' halts. (let o = over to rest z sv n' p ended' halts in
-              let name_is : n ≡ n' = some_is (sym ended.0 ∙ ap name_of o.place ∙ ended'.0) in
-              ((λ i. node (name_is i) from (o.at i) (sym o.joined i)), o.place, (λ i. leave (scoped (o.place i)) sa (o.state i))));
-        }
-      where
-        rolled : out-Tree (node n from mid ps) ≡ record { rule = n.rule; choice = n.choice; from = from; to = mid; parts = ps }
-        rolled = out-roll-Tree (record { rule = n.rule; choice = n.choice; from = from; to = mid; parts = ps })
+      whole_ended : Ended (At cs h) cs sm q (end (node n from mid ps)) (name (node n from mid ps))
+      whole_ended = subst (λ (x : Tree-F Tree). Ended (At cs h) cs sm q x.to (record { rule = x.rule; choice = x.choice })) (sym rolled) ended
 
-        further : (q ≡ q0) ⊎ (mid0 < mid) → mid0 < mid
-        further (inl e) = absurd (none_not (sym unnamed ∙ ap name_of (sym e) ∙ ended.0))
-        further (inr l) = l
+      whole_path : Path (At cs h) h cs (home q) sa from mid ps q sm → Path (At cs h) h cs (home q) sa (start (node n from mid ps)) (end (node n from mid ps)) (parts (node n from mid ps)) q sm
+      whole_path p = subst (λ (x : Tree-F Tree). Path (At cs h) h cs (home q) sa x.from x.to x.parts q sm) (sym rolled) p
 
-        whole_ended : Ended cs sm q (end (node n from mid ps)) (name (node n from mid ps))
-        whole_ended = subst (λ (x : Tree-F Tree). Ended cs sm q x.to (record { rule = x.rule; choice = x.choice })) (sym rolled) ended
+      whole_least : (k : ℕ) → Tall k (node n from mid ps) → height + 1 ≤ k
+      whole_least zero a = absurd (tall_zero (node n from mid ps) a)
+      whole_least (suc k) a = let b : height ≤ k = half.least k (subst (λ (x : Tree-F Tree). AllOf (Tall k) x.parts) rolled (tall_parts k (node n from mid ps) a)) in omega arith
 
-        whole_path : Path (At cs h) h cs (home q) sa from mid ps q sm → Path (At cs h) h cs (home q) sa (start (node n from mid ps)) (end (node n from mid ps)) (parts (node n from mid ps)) q sm
-        whole_path p = subst (λ (x : Tree-F Tree). Path (At cs h) h cs (home q) sa x.from x.to x.parts q sm) (sym rolled) p
+-- where no token goes on
+pub nothing_stuck : (cs : List Lexeme) (h : ℕ) (sm : Scope) (q mid : ℕ) → ((k : Class) → class_at cs sm mid ≡ Some k → Enters q k → ⊥) → Stuck cs h sm q mid
+nothing_stuck cs h sm q mid nothing = λ to t rest z sv n path ended. (let f = path_enters cs h q sm mid to t rest z sv path in nothing f.class f.token f.begins)
 
-        whole_least : (k : ℕ) → Tall k (node n from mid ps) → height + 1 ≤ k
-        whole_least zero a = absurd (tall_zero (node n from mid ps) a)
-        whole_least (suc k) a = let b : height ≤ k = r.half.least k (subst (λ (x : Tree-F Tree). AllOf (Tall k) x.parts) rolled (tall_parts k (node n from mid ps) a)) in omega arith
+-- a token that may not follow, and is no lost `else`
+pub barred_none : (cs : List Lexeme) (h : ℕ) (sa sm : Scope) (q : ℕ) (ps : List Tree) (from mid : ℕ) → Stuck cs h sm q mid → (k : Class) → class_at cs sm mid ≡ Some k → Has (bars q) k → (k ≡ cl.Else → ⊥) → Ends cs h sa sm q ps from mid None
+barred_none cs h sa sm q ps from mid stuck k token bar not = record { found = tt; only = λ to rest z sv n path ended halts. go to rest z sv n path ended }
+  where
+    go : (to : ℕ) (rest : List Tree) (z : ℕ) (sv : Scope) (n : Label) → Path (At cs h) h cs q sm mid to rest z sv → Ended (At cs h) cs sv z to n → ⊥
+    go to [] z sv n path ended = not ((ended_here cs h q sm mid to z sv n path ended).1 k token bar).0
+    go to (t ∷ rest) z sv n path ended = stuck to t rest z sv n path ended
+
+-- what ends a reading ends all that began it
+module _ (cs : List Lexeme) (h : ℕ) (sa s0 : Scope) (q0 : ℕ) (ps0 : List Tree) (from mid0 : ℕ) (sm : Scope) (q : ℕ) (ps : List Tree) (mid height : ℕ) (r : Reading cs h sa s0 q0 ps0 from mid0 sm q ps mid height) where
+  whole_only : (o : Option Found) → Ends cs h sa sm q ps from mid o → (to : ℕ) (rest : List Tree) (z : ℕ) (sv : Scope) (n : Label) → Path (At cs h) h cs q0 s0 mid0 to rest z sv → Ended (At cs h) cs sv z to n → Halts cs sv q0 to
+      → Gives o (node n from to (ps0 ++ rest)) z (leave (scoped z) sa sv)
+  whole_only o e to rest z sv n path ended halts =
+      let l = r.goes_on to rest z sv n path ended halts in
+      subst (λ (v : List Tree). Gives o (node n from to v) z (leave (scoped z) sa sv)) (sym l.joined) (e.only to l.rest z sv n l.path ended l.halts)
+
+  pub reading_some : name_of q0 ≡ None → (l : Label) → name_of q ≡ Some l → from < mid
+  reading_some unnamed l named = go r.ahead
+    where
+      go : (q ≡ q0) ⊎ (mid0 < mid) → from < mid
+      go (inl e) = absurd (none_not (sym unnamed ∙ ap name_of (sym e) ∙ named))
+      go (inr l) = omega (arith, r.above0)
+
+  pub reading_builds : name_of q0 ≡ None → (o : Option Found) → Ends cs h sa sm q ps from mid o → Builds cs h sa s0 q0 ps0 from mid0 o
+  reading_builds unnamed None e = record { found = tt; only = whole_only None e }
+  reading_builds unnamed (Some f) e = record { found = (let x = e.found in (x.0, x.1, further x.2 x.3 r.ahead)); only = whole_only (Some f) e }
+    where
+      further : mid ≤ end f.tree → (name_of q ≡ None → ⊥) → (q ≡ q0) ⊎ (mid0 < mid) → mid0 < end f.tree
+      further le named (inl e) = absurd (named (ap name_of e ∙ unnamed))
+      further le named (inr l) = omega arith
+
+  pub reading_ends : (name_of q0 ≡ None → ⊥) → (o : Option Found) → Ends cs h sa sm q ps from mid o → Ends cs h sa s0 q0 ps0 from mid0 o
+  reading_ends named None e = record { found = tt; only = whole_only None e }
+  reading_ends named (Some f) e = record { found = (let x = e.found in let l : mid ≤ end f.tree = x.2 in (x.0, x.1, omega (arith, r.after), named)); only = whole_only (Some f) e }

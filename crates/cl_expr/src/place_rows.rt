@@ -44,7 +44,7 @@ macro_rules! ending {
     };
 }
 
-// the same of a declarator that names something
+// the same of a declarator that names something, or of a statement that ends with an `if` without `else`
 macro_rules! naming {
     ($first:expr, $last:expr, $rule:ident, $choice:expr) => {
         row!($first, $last, label!($rule, $choice), None, false, None, None, true)
@@ -65,10 +65,17 @@ macro_rules! scoped {
     };
 }
 
-// the same before anything but `else`
+// the same of a block that ends with an `if` without `else`
+macro_rules! open {
+    ($first:expr, $last:expr, $rule:ident, $choice:expr) => {
+        row!($first, $last, label!($rule, $choice), None, true, None, None, true)
+    };
+}
+
+// the same where an `else` may follow
 macro_rules! without_else {
     ($first:expr, $last:expr, $rule:ident, $choice:expr) => {
-        row!($first, $last, label!($rule, $choice), Some(Terminal::Is(Class::Else)), true, None, None, false)
+        row!($first, $last, label!($rule, $choice), Some(Terminal::Is(Class::Else)), true, None, None, true)
     };
 }
 
@@ -79,7 +86,7 @@ macro_rules! corner {
     };
 }
 
-// a place after a declarator of a parameter
+// a place after a declarator of a parameter, or after a statement within another one
 macro_rules! turning {
     ($first:expr, $last:expr, $named:expr, $other:expr) => {
         row!($first, $last, None, None, false, None, Some(Ways { named: $named, other: $other }), false)
@@ -93,7 +100,7 @@ macro_rules! rows {
     };
 }
 
-static ROWS: [Row; 491] = rows! {
+static ROWS: [Row; 509] = rows! {
     inner!(0, 0), inner!(0, 4), ending!(4, 4, PrimaryExpression, 0), ending!(4, 4, PrimaryExpression, 1),
     ending!(4, 5, PrimaryExpression, 2), inner!(5, 6), inner!(6, 7), ending!(7, 7, PrimaryExpression, 3), inner!(7, 8),
     inner!(8, 9), inner!(9, 10), inner!(10, 11), inner!(11, 12), inner!(12, 13), ending!(13, 13, GenericSelection, 0),
@@ -195,18 +202,23 @@ static ROWS: [Row; 491] = rows! {
     inner!(368, 369), ending!(369, 369, Designator, 0), inner!(369, 370), ending!(370, 370, Designator, 1), inner!(370, 371),
     inner!(371, 372), inner!(372, 373), inner!(373, 374), inner!(374, 375), inner!(375, 377), inner!(377, 378),
     ending!(378, 378, StaticAssertDeclaration, 0), inner!(378, 381), inner!(381, 382), inner!(382, 383),
-    ending!(383, 383, LabeledStatement, 0), inner!(383, 384), inner!(384, 385), inner!(385, 386),
-    ending!(386, 386, LabeledStatement, 1), inner!(386, 387), inner!(387, 388), ending!(388, 388, LabeledStatement, 2),
-    inner!(388, 389), inner!(389, 391), inner!(391, 392), ending!(392, 392, CompoundStatement, 0), inner!(392, 393),
-    ending!(393, 394, BlockItemList, 0), inner!(394, 396), inner!(396, 397), ending!(397, 397, ExpressionStatement, 0),
-    inner!(397, 399), inner!(399, 400), inner!(400, 401), inner!(401, 402), inner!(402, 403),
-    without_else!(403, 404, SelectionStatement, 0), inner!(404, 405), scoped!(405, 405, SelectionStatement, 1), inner!(405, 406),
-    inner!(406, 407), inner!(407, 408), inner!(408, 409), scoped!(409, 409, SelectionStatement, 2), inner!(409, 412),
-    inner!(412, 413), inner!(413, 414), inner!(414, 415), inner!(415, 416), scoped!(416, 416, IterationStatement, 0),
-    inner!(416, 417), inner!(417, 418), inner!(418, 419), inner!(419, 420), inner!(420, 421), inner!(421, 422),
-    scoped!(422, 422, IterationStatement, 1), inner!(422, 423), inner!(423, 426), inner!(426, 427), inner!(427, 429),
-    inner!(429, 430), inner!(430, 432), inner!(432, 433), inner!(433, 434), scoped!(434, 434, IterationStatement, 2),
-    inner!(434, 436), inner!(436, 437), inner!(437, 439), inner!(439, 440), inner!(440, 441),
+    turning!(383, 383, 408, 409), naming!(383, 383, LabeledStatement, 0), ending!(383, 383, LabeledStatement, 0),
+    inner!(383, 384), inner!(384, 385), inner!(385, 386), turning!(386, 386, 414, 415), naming!(386, 386, LabeledStatement, 1),
+    ending!(386, 386, LabeledStatement, 1), inner!(386, 387), inner!(387, 388), turning!(388, 388, 419, 420),
+    naming!(388, 388, LabeledStatement, 2), ending!(388, 388, LabeledStatement, 2), inner!(388, 389), inner!(389, 391),
+    inner!(391, 392), ending!(392, 392, CompoundStatement, 0), inner!(392, 393), ending!(393, 394, BlockItemList, 0),
+    inner!(394, 396), inner!(396, 397), ending!(397, 397, ExpressionStatement, 0), inner!(397, 399), inner!(399, 400),
+    inner!(400, 401), inner!(401, 402), inner!(402, 403), turning!(403, 403, 436, 437), open!(403, 403, SelectionStatement, 0),
+    without_else!(403, 404, SelectionStatement, 0), inner!(404, 405), turning!(405, 405, 440, 441),
+    open!(405, 405, SelectionStatement, 1), scoped!(405, 405, SelectionStatement, 1), inner!(405, 406), inner!(406, 407),
+    inner!(407, 408), inner!(408, 409), turning!(409, 409, 447, 448), open!(409, 409, SelectionStatement, 2),
+    scoped!(409, 409, SelectionStatement, 2), inner!(409, 412), inner!(412, 413), inner!(413, 414), inner!(414, 415),
+    inner!(415, 416), inner!(416, 417), inner!(417, 418), scoped!(418, 418, IterationStatement, 1), inner!(418, 419),
+    inner!(419, 420), inner!(420, 421), inner!(421, 422), turning!(422, 422, 462, 463), open!(422, 422, IterationStatement, 0),
+    scoped!(422, 422, IterationStatement, 0), inner!(422, 423), inner!(423, 426), inner!(426, 427), inner!(427, 429),
+    inner!(429, 430), inner!(430, 432), inner!(432, 433), inner!(433, 434), turning!(434, 434, 473, 474),
+    open!(434, 434, IterationStatement, 2), scoped!(434, 434, IterationStatement, 2), inner!(434, 436), inner!(436, 437),
+    inner!(437, 439), inner!(439, 440), inner!(440, 441), turning!(441, 441, 481, 482), open!(441, 441, IterationStatement, 3),
     scoped!(441, 441, IterationStatement, 3), inner!(441, 445), inner!(445, 446), inner!(446, 447),
     ending!(447, 447, JumpStatement, 0), inner!(447, 448), ending!(448, 448, JumpStatement, 1), inner!(448, 449),
     ending!(449, 449, JumpStatement, 2), inner!(449, 451), inner!(451, 452), ending!(452, 452, JumpStatement, 3),

@@ -104,6 +104,16 @@ pub fn turn(place: u16, part: u16) -> u16
     if named { ways.named } else { ways.other }
 }
 
+/// The place after what stands first at a place.
+pub fn next_of(place: u16) -> u16
+    ensures { result ≡ t.next_by (slice_get (t.edges place) 0) place }
+{
+    match edges(place).first() {
+        Some(edge) => edge.next,
+        None => place,
+    }
+}
+
 /// The places where the trees of a nonterminal end.
 pub fn kinds(goal: Nonterminal) -> &'static [u16]
     ensures { result.now ≡ t.kinds goal }

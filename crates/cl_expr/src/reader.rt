@@ -8,9 +8,11 @@ ghost use Rattle.cl_tree.specs.declared.class.Class.TheVariants as cl;
 ghost use Rattle.cl_tree.specs.declared.nonterminal.Nonterminal.TheVariants as nt;
 ghost use Rattle.cl_tree.specs.declared.grammar.Symbol.TheVariants.{Token, Entry};
 ghost use Rattle.cl_expr.specs.code.Table as t;
-ghost use Rattle.cl_expr.specs.code.Parses.{Parses, Nests, Part, Half, Builds, Opens, Steps, Climbs, GoesOn, Sound, Begins, Enters};
+ghost use Rattle.cl_expr.specs.declared.table.Label.{Label};
+ghost use Rattle.cl_expr.specs.code.Paths.{At, Lost};
+ghost use Rattle.cl_expr.specs.code.Parses.{Parses, Nests, Part, Half, Builds, Ends, Stuck, Opens, Steps, Climbs, GoesOn, Sound, Begins, Enters};
 
-use crate::places::{bar, corner, is_scoped, kinds, name_of, turn};
+use crate::places::{bar, corner, is_scoped, kinds, name_of, next_of, turn};
 use crate::scan::{going, has_place, is_shunned, look, opening, same_class, taken};
 use crate::table::Edge;
 use cl_base::{List, Mem};
@@ -208,17 +210,6 @@ impl<F: Fn(Global, &[Lexeme], &Scope, Nonterminal, u32, u32) -> Mem<Option<Found
         }
     }
 
-    /// What begins at a place of a production.
-    fn edge(&self, scope: &Scope, place: u16, at: u32) -> Option<Edge>
-        ensures some { IfSome result (λ e. Has (t.edges place) e × ((k : Class) × (n.class_at self.now.tokens.now scope.now at ≡ Some k) × Begins e.before e.symbol k)) }
-        ensures none { result ≡ None → (k : Class) → n.class_at self.now.tokens.now scope.now at ≡ Some k → Enters place k → ⊥ }
-    {
-        match class_at(self.tokens, scope, at) {
-            Some(class) => look(place, class),
-            None => None,
-        }
-    }
-
     /// Whether the token there may not follow a production that ends at a place.
     fn barred(&self, scope: &Scope, place: u16, at: u32) -> bool
         ensures yes { result ≡ true → (k : Class) × (n.class_at self.now.tokens.now scope.now at ≡ Some k) × Has (t.bars place) k }
@@ -231,6 +222,132 @@ impl<F: Fn(Global, &[Lexeme], &Scope, Nonterminal, u32, u32) -> Mem<Option<Found
             Some(class) => taken(terminal, class),
             None => false,
         }
+    }
+
+    /// Whether an `else` is there that may follow a production that ends at a place only where no statement derives after it.
+    fn dangles(&self, scope: &Scope, place: u16, at: u32) -> bool
+        ensures yes { result ≡ true → (n.class_at self.now.tokens.now scope.now at ≡ Some cl.Else) × Has (t.bars place) cl.Else }
+        ensures no { result ≡ false → n.class_at self.now.tokens.now scope.now at ≡ Some cl.Else → Has (t.bars place) cl.Else → ⊥ }
+    {
+        let barred = self.barred(scope, place, at);
+        if !barred {
+            return false;
+        }
+        match class_at(self.tokens, scope, at) {
+            Some(class) => same_class(class, Class::Else),
+            None => false,
+        }
+    }
+
+    /// What begins at a place of a production, but for such an `else`.
+    fn edge(&self, scope: &Scope, place: u16, at: u32) -> Option<Edge>
+        ensures some { IfSome result (λ e. Has (t.edges place) e × ((k : Class) × (n.class_at self.now.tokens.now scope.now at ≡ Some k) × Begins e.before e.symbol k × (Has (t.bars place) k → k ≡ cl.Else → ⊥))) }
+        ensures none { result ≡ None → (k : Class) → n.class_at self.now.tokens.now scope.now at ≡ Some k → Enters place k → (k ≡ cl.Else) × Has (t.bars place) k }
+    {
+        let dangling = self.dangles(scope, place, at);
+        if dangling {
+            return None;
+        }
+        match class_at(self.tokens, scope, at) {
+            Some(class) => look(place, class),
+            None => None,
+        }
+    }
+
+    /// The node that has these parts and ends at a place of its production.
+    fn node(
+        &self,
+        before: &Scope,
+        inside: Scope,
+        place: u16,
+        parts: List<Tree>,
+        from: u32,
+        to: u32,
+        height: u32,
+    ) -> Mem<Option<Found>>
+        requires nests { Nests self.now.tokens.now self.now.depth (F.pre self.now.parse) (F.post self.now.parse) }
+        requires half { Half self.now.tokens.now self.now.depth before.now inside place parts from to height }
+        requires some { (l : Label) → t.name_of place ≡ Some l → from < to }
+        requires stuck { Stuck self.now.tokens.now self.now.depth inside place to }
+        requires free { (k : Class) → n.class_at self.now.tokens.now inside to ≡ Some k → Has (t.bars place) k → Lost (At self.now.tokens.now self.now.depth) self.now.tokens.now k inside to }
+        ensures { IfOk result (Ends self.now.tokens.now self.now.depth before.now inside place parts from to) }
+    {
+        let Some(label) = name_of(place) else {
+            return Ok(None);
+        };
+        let after = leave(self.alloc, place, before, inside)?;
+        Ok(Some(Found {
+            tree: Tree {
+                rule: label.rule,
+                choice: label.choice,
+                from,
+                to,
+                parts,
+            },
+            place,
+            scope: after,
+            height: height + 1,
+        }))
+    }
+
+    /// The node that has these parts, an `else` and the statement after it; where none derives, it ends before the `else`.
+    fn with_else(
+        &self,
+        before: &Scope,
+        inside: Scope,
+        place: u16,
+        parts: List<Tree>,
+        from: u32,
+        at: u32,
+        height: u32,
+    ) -> Mem<Option<Found>>
+        requires nests { Nests self.now.tokens.now self.now.depth (F.pre self.now.parse) (F.post self.now.parse) }
+        requires half { Half self.now.tokens.now self.now.depth before.now inside place parts from at height }
+        requires some { (l : Label) → t.name_of place ≡ Some l → from < at }
+        requires token { n.class_at self.now.tokens.now inside at ≡ Some cl.Else }
+        requires bar { Has (t.bars place) cl.Else }
+        ensures { IfOk result (Ends self.now.tokens.now self.now.depth before.now inside place parts from at) }
+    {
+        let copy = inside.share(self.alloc)?;
+        let beyond = pass(self.tokens, copy, Act::Close, at)?;
+        let Some(statement) = self.nonterminal(&beyond, Nonterminal::Statement, at + 1)? else {
+            return self.node(before, inside, place, parts, from, at, height);
+        };
+        let end = turn(next_of(next_of(place)), statement.place);
+        let to = statement.tree.to;
+        let mut all = parts;
+        all.push(token_leaf(self.alloc, at))?;
+        all.push(statement.tree)?;
+        let tall = larger(height, statement.height);
+        self.node(before, statement.scope, end, all, from, to, tall)
+    }
+
+    /// The node that has these parts, where nothing else goes on from a place of its production.
+    fn ending(
+        &self,
+        before: &Scope,
+        inside: Scope,
+        place: u16,
+        parts: List<Tree>,
+        from: u32,
+        to: u32,
+        height: u32,
+    ) -> Mem<Option<Found>>
+        requires nests { Nests self.now.tokens.now self.now.depth (F.pre self.now.parse) (F.post self.now.parse) }
+        requires half { Half self.now.tokens.now self.now.depth before.now inside place parts from to height }
+        requires some { (l : Label) → t.name_of place ≡ Some l → from < to }
+        requires over { (k : Class) → n.class_at self.now.tokens.now inside to ≡ Some k → Enters place k → (k ≡ cl.Else) × Has (t.bars place) k }
+        ensures { IfOk result (Ends self.now.tokens.now self.now.depth before.now inside place parts from to) }
+    {
+        let dangling = self.dangles(&inside, place, to);
+        if dangling {
+            return self.with_else(before, inside, place, parts, from, to, height);
+        }
+        let barred = self.barred(&inside, place, to);
+        if barred {
+            return Ok(None);
+        }
+        self.node(before, inside, place, parts, from, to, height)
     }
 
     /// The node that has these parts, and goes on from a place of its production.
@@ -264,26 +381,7 @@ impl<F: Fn(Global, &[Lexeme], &Scope, Nonterminal, u32, u32) -> Mem<Option<Found
             height = larger(height, part.height);
             parts.push(part.tree)?;
         }
-        let Some(label) = name_of(place) else {
-            return Ok(None);
-        };
-        let barred = self.barred(&scope, place, to);
-        if barred {
-            return Ok(None);
-        }
-        let after = leave(self.alloc, place, before, scope)?;
-        Ok(Some(Found {
-            tree: Tree {
-                rule: label.rule,
-                choice: label.choice,
-                from,
-                to,
-                parts,
-            },
-            place,
-            scope: after,
-            height: height + 1,
-        }))
+        self.ending(before, scope, place, parts, from, to, height)
     }
 
     /// The node that begins a tree of a nonterminal.

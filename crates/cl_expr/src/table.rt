@@ -24,7 +24,8 @@ pub struct Head {
     pub next: u16,
 }
 
-/// The places after a declarator that names something, and after any other one.
+/// The places after a declarator that names something, and after any other one; or after a statement that ends with an `if`
+/// without `else`, and after any other one.
 #[derive(Clone, Copy)]
 pub struct Ways {
     pub named: u16,
@@ -33,7 +34,7 @@ pub struct Ways {
 
 /// A place: its edges as a range of all of them, the node that may end there, what may not follow it then and whether it is a
 /// block, the nonterminal with which its production begins if that is read before, the places after a part whose kind
-/// decides, and whether the node is a declarator that names something.
+/// decides, and whether the node is a declarator that names something or a statement that ends with an `if` without `else`.
 #[derive(Clone, Copy)]
 pub struct Row {
     pub first: u16,

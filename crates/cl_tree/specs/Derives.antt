@@ -6,6 +6,7 @@ use Rattle.cl_tree.specs.declared.rule.Rule.TheVariants as ru
 use Rattle.cl_tree.specs.declared.nonterminal.Nonterminal.{Nonterminal}
 use Rattle.cl_tree.specs.declared.nonterminal.Nonterminal.TheVariants as nt
 use Rattle.cl_tree.specs.declared.grammar.Terminal.{Terminal}
+use Rattle.cl_tree.specs.declared.grammar.Act.TheVariants as ac
 use Rattle.cl_tree.specs.declared.grammar.Symbol.{Symbol}
 use Rattle.cl_tree.specs.declared.grammar.Symbol.TheVariants.{Token, Node, Entry}
 use Rattle.cl_tree.specs.declared.grammar.Part.{Part}
@@ -119,11 +120,15 @@ module _ (D : Nonterminal → Scope → Tree → Scope → Type 0) (h : ℕ) (ts
   Follows r d s at to [] w = (left_out (drop d r.parts) ≡ true) × (at ≡ to) × (s ≡ w)
   Follows r d s at to (p ∷ ps) w = (x : Next) × (v : Scope) × Has (nexts r d) x × ReadsAfter x.before x.symbol s at p v × Follows r x.behind v (end p) to ps w
 
-  -- the tree is a node of a production, and no token that it bars follows; v is declared at its end, and w after it
+  -- an `else` is there after which no statement derives: it goes with no `if` (6.8.4.1p3)
+  abbrev pub Lost : Class → Scope → ℕ → Type 0
+  Lost c s at = (c ≡ cl.Else) × ((t : Tree) (v : Scope) → D nt.Statement (pass ts s ac.Close at) t v → start t ≡ at + 1 → ⊥)
+
+  -- the tree is a node of a production, and no token that it bars follows, but for a lost `else`; v is declared at its end, and w after it
   abbrev pub IsNode : Production → Scope → Tree → Scope → Type 0
   IsNode r s t w =
       ((out-Tree t).rule ≡ r.rule) × ((out-Tree t).choice ≡ r.choice) × (v : Scope) × Follows r 0 s (start t) (end t) (parts t) v
-      × ((c : Class) → class_at ts v (end t) ≡ Some c → Has (barred r.bar) c → ⊥) × (w ≡ leave r.scoped s v)
+      × ((c : Class) → class_at ts v (end t) ≡ Some c → Has (barred r.bar) c → Lost c v (end t)) × (w ≡ leave r.scoped s v)
 
 -- a tree of one nonterminal is one of another: by productions whose right side is one nonterminal
 pub data StandsFor : Nonterminal → Nonterminal → Type 0 where

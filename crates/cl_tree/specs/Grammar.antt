@@ -84,14 +84,15 @@ untyped g r c ps = record { of = g; rule = r; choice = c; parts = ps; again = []
 abbrev pub scoped : Nonterminal → Rule → ℕ → List Part → Production
 scoped g r c ps = record { of = g; rule = r; choice = c; parts = ps; again = []; bar = None; scoped = true }
 
--- a statement that is a block, after which no `else` may stand: an `else` goes with the nearest `if` (6.8.4.1p3)
+-- a statement that is a block, after which an `else` may stand only where no statement derives after that: an `else` goes with the nearest `if` that
+-- the syntax allows (6.8.4.1p3)
 abbrev pub without_else : Nonterminal → Rule → ℕ → List Part → Production
 without_else g r c ps = record { of = g; rule = r; choice = c; parts = ps; again = []; bar = Some (te.Is cl.Else); scoped = true }
 
 abbrev pub unit : Nonterminal → Nonterminal → UnitRow
 unit g u = record { of = g; by = u }
 
--- the productions that make a node
+-- the productions that make a node; a statement that ends with an `if` without `else` is open, any other closed
 unfoldable pub productions : List Production
 productions =
     -- primary-expression (6.5.1)
@@ -317,9 +318,12 @@ productions =
     -- static_assert-declaration (6.7.10)
     production nt.StaticAssertDeclaration ru.StaticAssertDeclaration 0 (one (t (is cl.StaticAssert)) ∷ one (t te.Open) ∷ one (n nt.ConstantExpression) ∷ one (t (is cl.Comma)) ∷ one (t (is cl.String)) ∷ many (t (is cl.String)) ∷ one (t (is cl.RightParen)) ∷ one (t (is cl.Semicolon)) ∷ []) ∷
     -- labeled-statement (6.8.1)
-    production nt.LabeledStatement ru.LabeledStatement 0 (one (t te.Label) ∷ one (t (is cl.Colon)) ∷ one (n nt.Statement) ∷ []) ∷
-    production nt.LabeledStatement ru.LabeledStatement 1 (one (t (is cl.Case)) ∷ one (n nt.ConstantExpression) ∷ one (t (is cl.Colon)) ∷ one (n nt.Statement) ∷ []) ∷
-    production nt.LabeledStatement ru.LabeledStatement 2 (one (t (is cl.Default)) ∷ one (t (is cl.Colon)) ∷ one (n nt.Statement) ∷ []) ∷
+    production nt.ClosedLabeledStatement ru.LabeledStatement 0 (one (t te.Label) ∷ one (t (is cl.Colon)) ∷ one (n nt.ClosedStatement) ∷ []) ∷
+    production nt.ClosedLabeledStatement ru.LabeledStatement 1 (one (t (is cl.Case)) ∷ one (n nt.ConstantExpression) ∷ one (t (is cl.Colon)) ∷ one (n nt.ClosedStatement) ∷ []) ∷
+    production nt.ClosedLabeledStatement ru.LabeledStatement 2 (one (t (is cl.Default)) ∷ one (t (is cl.Colon)) ∷ one (n nt.ClosedStatement) ∷ []) ∷
+    production nt.OpenLabeledStatement ru.LabeledStatement 0 (one (t te.Label) ∷ one (t (is cl.Colon)) ∷ one (n nt.OpenStatement) ∷ []) ∷
+    production nt.OpenLabeledStatement ru.LabeledStatement 1 (one (t (is cl.Case)) ∷ one (n nt.ConstantExpression) ∷ one (t (is cl.Colon)) ∷ one (n nt.OpenStatement) ∷ []) ∷
+    production nt.OpenLabeledStatement ru.LabeledStatement 2 (one (t (is cl.Default)) ∷ one (t (is cl.Colon)) ∷ one (n nt.OpenStatement) ∷ []) ∷
     -- compound-statement (6.8.2)
     production nt.CompoundStatement ru.CompoundStatement 0 (one (act (is cl.LeftBrace) ac.Open) ∷ opt (n nt.BlockItemList) ∷ one (act (is cl.RightBrace) ac.Close) ∷ []) ∷
     -- block-item-list (6.8.2)
@@ -327,14 +331,20 @@ productions =
     -- expression-statement (6.8.3)
     production nt.ExpressionStatement ru.ExpressionStatement 0 (opt (n nt.UnlabelledExpression) ∷ one (t (is cl.Semicolon)) ∷ []) ∷
     -- selection-statement (6.8.4)
-    without_else nt.SelectionStatement ru.SelectionStatement 0 (one (t (is cl.If)) ∷ one (t te.Open) ∷ one (n nt.Expression) ∷ one (act (is cl.RightParen) ac.Open) ∷ one (n nt.Statement) ∷ []) ∷
-    scoped nt.SelectionStatement ru.SelectionStatement 1 (one (t (is cl.If)) ∷ one (t te.Open) ∷ one (n nt.Expression) ∷ one (act (is cl.RightParen) ac.Open) ∷ one (n nt.Statement) ∷ one (act (is cl.Else) ac.Close) ∷ one (n nt.Statement) ∷ []) ∷
-    scoped nt.SelectionStatement ru.SelectionStatement 2 (one (t (is cl.Switch)) ∷ one (t te.Open) ∷ one (n nt.Expression) ∷ one (t (is cl.RightParen)) ∷ one (n nt.Statement) ∷ []) ∷
+    without_else nt.OpenSelectionStatement ru.SelectionStatement 0 (one (t (is cl.If)) ∷ one (t te.Open) ∷ one (n nt.Expression) ∷ one (act (is cl.RightParen) ac.Open) ∷ one (n nt.ClosedStatement) ∷ []) ∷
+    scoped nt.OpenSelectionStatement ru.SelectionStatement 0 (one (t (is cl.If)) ∷ one (t te.Open) ∷ one (n nt.Expression) ∷ one (act (is cl.RightParen) ac.Open) ∷ one (n nt.OpenStatement) ∷ []) ∷
+    scoped nt.ClosedSelectionStatement ru.SelectionStatement 1 (one (t (is cl.If)) ∷ one (t te.Open) ∷ one (n nt.Expression) ∷ one (act (is cl.RightParen) ac.Open) ∷ one (n nt.ClosedStatement) ∷ one (act (is cl.Else) ac.Close) ∷ one (n nt.ClosedStatement) ∷ []) ∷
+    scoped nt.OpenSelectionStatement ru.SelectionStatement 1 (one (t (is cl.If)) ∷ one (t te.Open) ∷ one (n nt.Expression) ∷ one (act (is cl.RightParen) ac.Open) ∷ one (n nt.ClosedStatement) ∷ one (act (is cl.Else) ac.Close) ∷ one (n nt.OpenStatement) ∷ []) ∷
+    scoped nt.ClosedSelectionStatement ru.SelectionStatement 2 (one (t (is cl.Switch)) ∷ one (t te.Open) ∷ one (n nt.Expression) ∷ one (t (is cl.RightParen)) ∷ one (n nt.ClosedStatement) ∷ []) ∷
+    scoped nt.OpenSelectionStatement ru.SelectionStatement 2 (one (t (is cl.Switch)) ∷ one (t te.Open) ∷ one (n nt.Expression) ∷ one (t (is cl.RightParen)) ∷ one (n nt.OpenStatement) ∷ []) ∷
     -- iteration-statement (6.8.5)
-    scoped nt.IterationStatement ru.IterationStatement 0 (one (t (is cl.While)) ∷ one (t te.Open) ∷ one (n nt.Expression) ∷ one (t (is cl.RightParen)) ∷ one (n nt.Statement) ∷ []) ∷
-    scoped nt.IterationStatement ru.IterationStatement 1 (one (act (is cl.Do) ac.Open) ∷ one (n nt.Statement) ∷ one (act (is cl.While) ac.Close) ∷ one (t te.Open) ∷ one (n nt.Expression) ∷ one (t (is cl.RightParen)) ∷ one (t (is cl.Semicolon)) ∷ []) ∷
-    scoped nt.IterationStatement ru.IterationStatement 2 (one (t (is cl.For)) ∷ one (t te.Open) ∷ opt (n nt.PlainExpression) ∷ one (t (is cl.Semicolon)) ∷ opt (n nt.Expression) ∷ one (t (is cl.Semicolon)) ∷ opt (n nt.Expression) ∷ one (t (is cl.RightParen)) ∷ one (n nt.Statement) ∷ []) ∷
-    scoped nt.IterationStatement ru.IterationStatement 3 (one (t (is cl.For)) ∷ one (t te.Open) ∷ one (n nt.Declaration) ∷ opt (n nt.Expression) ∷ one (t (is cl.Semicolon)) ∷ opt (n nt.Expression) ∷ one (t (is cl.RightParen)) ∷ one (n nt.Statement) ∷ []) ∷
+    scoped nt.ClosedIterationStatement ru.IterationStatement 1 (one (act (is cl.Do) ac.Open) ∷ one (n nt.Statement) ∷ one (act (is cl.While) ac.Close) ∷ one (t te.Open) ∷ one (n nt.Expression) ∷ one (t (is cl.RightParen)) ∷ one (t (is cl.Semicolon)) ∷ []) ∷
+    scoped nt.ClosedIterationStatement ru.IterationStatement 0 (one (t (is cl.While)) ∷ one (t te.Open) ∷ one (n nt.Expression) ∷ one (t (is cl.RightParen)) ∷ one (n nt.ClosedStatement) ∷ []) ∷
+    scoped nt.ClosedIterationStatement ru.IterationStatement 2 (one (t (is cl.For)) ∷ one (t te.Open) ∷ opt (n nt.PlainExpression) ∷ one (t (is cl.Semicolon)) ∷ opt (n nt.Expression) ∷ one (t (is cl.Semicolon)) ∷ opt (n nt.Expression) ∷ one (t (is cl.RightParen)) ∷ one (n nt.ClosedStatement) ∷ []) ∷
+    scoped nt.ClosedIterationStatement ru.IterationStatement 3 (one (t (is cl.For)) ∷ one (t te.Open) ∷ one (n nt.Declaration) ∷ opt (n nt.Expression) ∷ one (t (is cl.Semicolon)) ∷ opt (n nt.Expression) ∷ one (t (is cl.RightParen)) ∷ one (n nt.ClosedStatement) ∷ []) ∷
+    scoped nt.OpenIterationStatement ru.IterationStatement 0 (one (t (is cl.While)) ∷ one (t te.Open) ∷ one (n nt.Expression) ∷ one (t (is cl.RightParen)) ∷ one (n nt.OpenStatement) ∷ []) ∷
+    scoped nt.OpenIterationStatement ru.IterationStatement 2 (one (t (is cl.For)) ∷ one (t te.Open) ∷ opt (n nt.PlainExpression) ∷ one (t (is cl.Semicolon)) ∷ opt (n nt.Expression) ∷ one (t (is cl.Semicolon)) ∷ opt (n nt.Expression) ∷ one (t (is cl.RightParen)) ∷ one (n nt.OpenStatement) ∷ []) ∷
+    scoped nt.OpenIterationStatement ru.IterationStatement 3 (one (t (is cl.For)) ∷ one (t te.Open) ∷ one (n nt.Declaration) ∷ opt (n nt.Expression) ∷ one (t (is cl.Semicolon)) ∷ opt (n nt.Expression) ∷ one (t (is cl.RightParen)) ∷ one (n nt.OpenStatement) ∷ []) ∷
     -- jump-statement (6.8.6)
     production nt.JumpStatement ru.JumpStatement 0 (one (t (is cl.Goto)) ∷ one (t te.Name) ∷ one (t (is cl.Semicolon)) ∷ []) ∷
     production nt.JumpStatement ru.JumpStatement 1 (one (t (is cl.Continue)) ∷ one (t (is cl.Semicolon)) ∷ []) ∷
@@ -384,14 +394,16 @@ units =
     unit nt.AbstractDeclarator nt.Pointer ∷
     unit nt.AbstractDeclarator nt.DirectAbstractDeclarator ∷
     unit nt.Initializer nt.AssignmentExpression ∷
-    unit nt.Statement nt.LabeledStatement ∷
-    unit nt.Statement nt.CompoundStatement ∷
-    unit nt.Statement nt.ExpressionStatement ∷
-    unit nt.Statement nt.SelectionStatement ∷
-    unit nt.Statement nt.IterationStatement ∷
-    unit nt.Statement nt.JumpStatement ∷
+    unit nt.Statement nt.ClosedStatement ∷
+    unit nt.Statement nt.OpenStatement ∷
+    unit nt.LabeledStatement nt.ClosedLabeledStatement ∷
+    unit nt.LabeledStatement nt.OpenLabeledStatement ∷
     unit nt.BlockItem nt.BlockDeclaration ∷
     unit nt.BlockItem nt.BlockStatement ∷
+    unit nt.SelectionStatement nt.ClosedSelectionStatement ∷
+    unit nt.SelectionStatement nt.OpenSelectionStatement ∷
+    unit nt.IterationStatement nt.ClosedIterationStatement ∷
+    unit nt.IterationStatement nt.OpenIterationStatement ∷
     unit nt.OtherSpecifier nt.StorageClassSpecifier ∷
     unit nt.OtherSpecifier nt.TypeQualifier ∷
     unit nt.OtherSpecifier nt.FunctionSpecifier ∷
@@ -408,6 +420,15 @@ units =
     unit nt.AnyDeclarator nt.AbstractDeclarator ∷
     unit nt.DirectAnyDeclarator nt.DirectParameterDeclarator ∷
     unit nt.DirectAnyDeclarator nt.DirectAbstractDeclarator ∷
+    unit nt.ClosedStatement nt.ClosedLabeledStatement ∷
+    unit nt.ClosedStatement nt.CompoundStatement ∷
+    unit nt.ClosedStatement nt.ExpressionStatement ∷
+    unit nt.ClosedStatement nt.ClosedSelectionStatement ∷
+    unit nt.ClosedStatement nt.ClosedIterationStatement ∷
+    unit nt.ClosedStatement nt.JumpStatement ∷
+    unit nt.OpenStatement nt.OpenLabeledStatement ∷
+    unit nt.OpenStatement nt.OpenSelectionStatement ∷
+    unit nt.OpenStatement nt.OpenIterationStatement ∷
     unit nt.UnlabelledExpression nt.Expression ∷
     unit nt.PlainExpression nt.Expression ∷
     unit nt.BlockStatement nt.LabeledStatement ∷

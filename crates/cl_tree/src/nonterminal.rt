@@ -161,6 +161,22 @@ pub enum Nonterminal {
     AnyDeclarator,
     /// A direct-declarator of a parameter, or an abstract one (6.7.6).
     DirectAnyDeclarator,
+    /// A statement that ends with no `if` without `else`: only after such a one the `else` of an `if` around it stands (6.8).
+    ClosedStatement,
+    /// A statement that ends with an `if` without `else` (6.8).
+    OpenStatement,
+    /// A labeled-statement that ends with no `if` without `else` (6.8.1).
+    ClosedLabeledStatement,
+    /// A labeled-statement that ends with an `if` without `else` (6.8.1).
+    OpenLabeledStatement,
+    /// A selection-statement that ends with no `if` without `else` (6.8.4).
+    ClosedSelectionStatement,
+    /// A selection-statement that ends with an `if` without `else` (6.8.4).
+    OpenSelectionStatement,
+    /// An iteration-statement that ends with no `if` without `else` (6.8.5).
+    ClosedIterationStatement,
+    /// An iteration-statement that ends with an `if` without `else` (6.8.5).
+    OpenIterationStatement,
     /// An expression that begins with no label: that of an expression statement (6.8.3).
     UnlabelledExpression,
     /// An expression that begins with no label and no typedef name: where a declaration may stand too (6.8.3).

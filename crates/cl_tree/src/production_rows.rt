@@ -46,7 +46,7 @@ macro_rules! scoped {
     };
 }
 
-// a statement that is a block, after which no `else` may stand
+// the same, after which an `else` may stand only where no statement derives after that
 macro_rules! without_else {
     ($of:ident, $rule:ident, $choice:expr, $from:expr, $to:expr) => {
         row!($of, $rule, $choice, $from, $to, Some(Terminal::Is(Class::Else)), true)
@@ -83,7 +83,7 @@ macro_rules! unit {
     };
 }
 
-static PRODUCTIONS: [Production; 180] = [
+static PRODUCTIONS: [Production; 189] = [
     made!(PrimaryExpression, PrimaryExpression, 0, 0, 1),
     made!(PrimaryExpression, PrimaryExpression, 1, 1, 2),
     made!(PrimaryExpression, PrimaryExpression, 2, 2, 4),
@@ -345,30 +345,39 @@ static PRODUCTIONS: [Production; 180] = [
         407,
         415
     ),
-    made!(LabeledStatement, LabeledStatement, 0, 415, 418),
-    made!(LabeledStatement, LabeledStatement, 1, 418, 422),
-    made!(LabeledStatement, LabeledStatement, 2, 422, 425),
-    made!(CompoundStatement, CompoundStatement, 0, 425, 428),
-    made!(BlockItemList, BlockItemList, 0, 428, 430),
-    made!(ExpressionStatement, ExpressionStatement, 0, 430, 432),
-    without_else!(SelectionStatement, SelectionStatement, 0, 432, 437),
-    scoped!(SelectionStatement, SelectionStatement, 1, 437, 444),
-    scoped!(SelectionStatement, SelectionStatement, 2, 444, 449),
-    scoped!(IterationStatement, IterationStatement, 0, 449, 454),
-    scoped!(IterationStatement, IterationStatement, 1, 454, 461),
-    scoped!(IterationStatement, IterationStatement, 2, 461, 470),
-    scoped!(IterationStatement, IterationStatement, 3, 470, 478),
-    made!(JumpStatement, JumpStatement, 0, 478, 481),
-    made!(JumpStatement, JumpStatement, 1, 481, 483),
-    made!(JumpStatement, JumpStatement, 2, 483, 485),
-    made!(JumpStatement, JumpStatement, 3, 485, 488),
-    made!(BlockExpressionStatement, ExpressionStatement, 0, 488, 490),
-    made!(BlockDeclaration, Declaration, 0, 490, 493),
-    made!(FunctionDefinition, FunctionDefinition, 0, 493, 496),
-    made!(FunctionBody, CompoundStatement, 0, 496, 499),
+    made!(ClosedLabeledStatement, LabeledStatement, 0, 415, 418),
+    made!(ClosedLabeledStatement, LabeledStatement, 1, 418, 422),
+    made!(ClosedLabeledStatement, LabeledStatement, 2, 422, 425),
+    made!(OpenLabeledStatement, LabeledStatement, 0, 425, 428),
+    made!(OpenLabeledStatement, LabeledStatement, 1, 428, 432),
+    made!(OpenLabeledStatement, LabeledStatement, 2, 432, 435),
+    made!(CompoundStatement, CompoundStatement, 0, 435, 438),
+    made!(BlockItemList, BlockItemList, 0, 438, 440),
+    made!(ExpressionStatement, ExpressionStatement, 0, 440, 442),
+    without_else!(OpenSelectionStatement, SelectionStatement, 0, 442, 447),
+    scoped!(OpenSelectionStatement, SelectionStatement, 0, 447, 452),
+    scoped!(ClosedSelectionStatement, SelectionStatement, 1, 452, 459),
+    scoped!(OpenSelectionStatement, SelectionStatement, 1, 459, 466),
+    scoped!(ClosedSelectionStatement, SelectionStatement, 2, 466, 471),
+    scoped!(OpenSelectionStatement, SelectionStatement, 2, 471, 476),
+    scoped!(ClosedIterationStatement, IterationStatement, 1, 476, 483),
+    scoped!(ClosedIterationStatement, IterationStatement, 0, 483, 488),
+    scoped!(ClosedIterationStatement, IterationStatement, 2, 488, 497),
+    scoped!(ClosedIterationStatement, IterationStatement, 3, 497, 505),
+    scoped!(OpenIterationStatement, IterationStatement, 0, 505, 510),
+    scoped!(OpenIterationStatement, IterationStatement, 2, 510, 519),
+    scoped!(OpenIterationStatement, IterationStatement, 3, 519, 527),
+    made!(JumpStatement, JumpStatement, 0, 527, 530),
+    made!(JumpStatement, JumpStatement, 1, 530, 532),
+    made!(JumpStatement, JumpStatement, 2, 532, 534),
+    made!(JumpStatement, JumpStatement, 3, 534, 537),
+    made!(BlockExpressionStatement, ExpressionStatement, 0, 537, 539),
+    made!(BlockDeclaration, Declaration, 0, 539, 542),
+    made!(FunctionDefinition, FunctionDefinition, 0, 542, 545),
+    made!(FunctionBody, CompoundStatement, 0, 545, 548),
 ];
 
-static UNITS: [Unit; 65] = [
+static UNITS: [Unit; 76] = [
     unit!(PrimaryExpression, GenericSelection),
     unit!(PostfixExpression, PrimaryExpression),
     unit!(UnaryExpression, PostfixExpression),
@@ -400,14 +409,16 @@ static UNITS: [Unit; 65] = [
     unit!(AbstractDeclarator, Pointer),
     unit!(AbstractDeclarator, DirectAbstractDeclarator),
     unit!(Initializer, AssignmentExpression),
-    unit!(Statement, LabeledStatement),
-    unit!(Statement, CompoundStatement),
-    unit!(Statement, ExpressionStatement),
-    unit!(Statement, SelectionStatement),
-    unit!(Statement, IterationStatement),
-    unit!(Statement, JumpStatement),
+    unit!(Statement, ClosedStatement),
+    unit!(Statement, OpenStatement),
+    unit!(LabeledStatement, ClosedLabeledStatement),
+    unit!(LabeledStatement, OpenLabeledStatement),
     unit!(BlockItem, BlockDeclaration),
     unit!(BlockItem, BlockStatement),
+    unit!(SelectionStatement, ClosedSelectionStatement),
+    unit!(SelectionStatement, OpenSelectionStatement),
+    unit!(IterationStatement, ClosedIterationStatement),
+    unit!(IterationStatement, OpenIterationStatement),
     unit!(OtherSpecifier, StorageClassSpecifier),
     unit!(OtherSpecifier, TypeQualifier),
     unit!(OtherSpecifier, FunctionSpecifier),
@@ -424,6 +435,15 @@ static UNITS: [Unit; 65] = [
     unit!(AnyDeclarator, AbstractDeclarator),
     unit!(DirectAnyDeclarator, DirectParameterDeclarator),
     unit!(DirectAnyDeclarator, DirectAbstractDeclarator),
+    unit!(ClosedStatement, ClosedLabeledStatement),
+    unit!(ClosedStatement, CompoundStatement),
+    unit!(ClosedStatement, ExpressionStatement),
+    unit!(ClosedStatement, ClosedSelectionStatement),
+    unit!(ClosedStatement, ClosedIterationStatement),
+    unit!(ClosedStatement, JumpStatement),
+    unit!(OpenStatement, OpenLabeledStatement),
+    unit!(OpenStatement, OpenSelectionStatement),
+    unit!(OpenStatement, OpenIterationStatement),
     unit!(UnlabelledExpression, Expression),
     unit!(PlainExpression, Expression),
     unit!(BlockStatement, LabeledStatement),

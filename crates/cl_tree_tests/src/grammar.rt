@@ -134,7 +134,18 @@ fn standard(goal: Nonterminal) -> Nonterminal {
         Nonterminal::UnlabelledExpression | Nonterminal::PlainExpression => Nonterminal::Expression,
         Nonterminal::BlockSpecifiers => Nonterminal::DeclarationSpecifiers,
         Nonterminal::BlockDeclaration => Nonterminal::Declaration,
-        Nonterminal::BlockStatement => Nonterminal::Statement,
+        Nonterminal::BlockStatement | Nonterminal::ClosedStatement | Nonterminal::OpenStatement => {
+            Nonterminal::Statement
+        }
+        Nonterminal::ClosedLabeledStatement | Nonterminal::OpenLabeledStatement => {
+            Nonterminal::LabeledStatement
+        }
+        Nonterminal::ClosedSelectionStatement | Nonterminal::OpenSelectionStatement => {
+            Nonterminal::SelectionStatement
+        }
+        Nonterminal::ClosedIterationStatement | Nonterminal::OpenIterationStatement => {
+            Nonterminal::IterationStatement
+        }
         Nonterminal::BlockExpressionStatement => Nonterminal::ExpressionStatement,
         Nonterminal::FunctionBody => Nonterminal::CompoundStatement,
         other => other,

@@ -142,6 +142,99 @@ static STATEMENTS: [Case; 8] = [
     },
 ];
 
+/// What stands in a block, so many times before and after, with a lost `else` in its midst: it always has a tree.
+struct Nested {
+    before: &'static [u8],
+    count: u32,
+    middle: &'static [u8],
+    after: &'static [u8],
+}
+
+/// Time that doubled with each of these nestings would never end.
+static NESTINGS: [Nested; 9] = [
+    Nested {
+        before: b"if (a) ",
+        count: 150,
+        middle: b"x; else 1 +; ",
+        after: b"",
+    },
+    Nested {
+        before: b"if (a) if (b) x; else do ",
+        count: 150,
+        middle: b"1 +;",
+        after: b"",
+    },
+    Nested {
+        before: b"if (a) x; else do ",
+        count: 20_000,
+        middle: b"1 +;",
+        after: b"",
+    },
+    Nested {
+        before: b"do if (a) if (b) x; else ",
+        count: 120,
+        middle: b"y;",
+        after: b" while (c);",
+    },
+    Nested {
+        before: b"do if (a) x; else do if (b) y; else ",
+        count: 20_000,
+        middle: b"1 +;",
+        after: b" while (c);",
+    },
+    Nested {
+        before: b"if (a) x; else ",
+        count: 20_000,
+        middle: b"1 +;",
+        after: b"",
+    },
+    Nested {
+        before: b"if (a) x; else { ",
+        count: 20_000,
+        middle: b"",
+        after: b"} ",
+    },
+    Nested {
+        before: b"if (a) { } else 1 +; ",
+        count: 20_000,
+        middle: b"",
+        after: b"",
+    },
+    Nested {
+        before: b"if (sizeof(enum { T })) if (b) x; else (T) 3; T y; ",
+        count: 20_000,
+        middle: b"",
+        after: b"",
+    },
+];
+
+#[test]
+fn lost_elses(rt: HostRuntime) -> Result<(), Fail> {
+    let alloc = rt.alloc();
+    for case in NESTINGS.as_slice() {
+        assert!(rt; in_block(alloc, case)?, "{}", case.count);
+    }
+    Ok(())
+}
+
+/// Whether a block of these has a tree.
+fn in_block(alloc: Global, case: &Nested) -> Mem<bool> {
+    let mut text = Vec::new(alloc);
+    text.extend_from_slice(b"{ ")?;
+    for _ in 0..case.count {
+        text.extend_from_slice(case.before)?;
+    }
+    text.extend_from_slice(case.middle)?;
+    for _ in 0..case.count {
+        text.extend_from_slice(case.after)?;
+    }
+    text.extend_from_slice(b" }")?;
+    let tokens = tokens_of(alloc, text.as_slice())?;
+    let goal = Nonterminal::CompoundStatement;
+    let tree = parse(alloc, tokens.as_slice(), &two_names(alloc)?, goal)?;
+    Ok(tree.is_some())
+}
+
 #[test]
 fn sizes(rt: HostRuntime) -> Result<(), Fail> {
     let alloc = rt.alloc();

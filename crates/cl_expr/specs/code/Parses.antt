@@ -17,7 +17,7 @@ use Rattle.cl_tree.specs.declared.lexeme.Lexeme.{Lexeme}
 use Rattle.cl_tree.specs.declared.scope.Scope.{Scope}
 use Rattle.cl_tree.specs.Scopes.{class_at, leave}
 use Rattle.cl_tree.specs.Grammar.{takes}
-use Rattle.cl_expr.specs.code.Table.{edges, scoped, home, corner, kinds, openers, suffixes, firsts, ends, goes, entry_classes}
+use Rattle.cl_expr.specs.code.Table.{edges, name_of, scoped, home, corner, kinds, openers, suffixes, firsts, ends, goes, entry_classes}
 use Rattle.cl_tree.specs.Derives.{Has, start, end, parts, Opened}
 use Rattle.cl_expr.specs.code.Paths.{name, node, Ended, ReadsAfter, Path, Kind, At}
 
@@ -113,7 +113,17 @@ pub record Half (cs : List Lexeme) (h : ℕ) (sa sm : Scope) (q : ℕ) (ps : Lis
 -- the answer is the one node that has these parts and goes on from there; sv is declared at its end
 pub record Builds (cs : List Lexeme) (h : ℕ) (sa sm : Scope) (q : ℕ) (ps : List Tree) (from mid : ℕ) (r : Option Found) : Type 0 where
   pub found : IfSome r (λ f. Sound cs (suc h) sa f × (start f.tree ≡ from) × (mid < end f.tree))
-  pub only : (to : ℕ) (rest : List Tree) (z : ℕ) (sv : Scope) (n : Label) → Path (At cs h) h cs q sm mid to rest z sv → Ended cs sv z to n → Halts cs sv q to
+  pub only : (to : ℕ) (rest : List Tree) (z : ℕ) (sv : Scope) (n : Label) → Path (At cs h) h cs q sm mid to rest z sv → Ended (At cs h) cs sv z to n → Halts cs sv q to
+      → Gives r (node n from to (ps ++ rest)) z (leave (scoped z) sa sv)
+
+-- no node goes on from a place of its production
+abbrev pub Stuck : List Lexeme → ℕ → Scope → ℕ → ℕ → Type 0
+Stuck cs h sm q mid = (to : ℕ) (p : Tree) (rest : List Tree) (z : ℕ) (sv : Scope) (n : Label) → Path (At cs h) h cs q sm mid to (p ∷ rest) z sv → Ended (At cs h) cs sv z to n → ⊥
+
+-- the answer is the one node that has these parts and ends here, or after an `else`
+pub record Ends (cs : List Lexeme) (h : ℕ) (sa sm : Scope) (q : ℕ) (ps : List Tree) (from mid : ℕ) (r : Option Found) : Type 0 where
+  pub found : IfSome r (λ f. Sound cs (suc h) sa f × (start f.tree ≡ from) × (mid ≤ end f.tree) × (name_of q ≡ None → ⊥))
+  pub only : (to : ℕ) (rest : List Tree) (z : ℕ) (sv : Scope) (n : Label) → Path (At cs h) h cs q sm mid to rest z sv → Ended (At cs h) cs sv z to n → Halts cs sv q to
       → Gives r (node n from to (ps ++ rest)) z (leave (scoped z) sa sv)
 
 -- the answer is the one node that begins a tree of the nonterminal
@@ -139,7 +149,7 @@ pub record Continues (cs : List Lexeme) (h : ℕ) (sa : Scope) (a : Tree) (y : �
   pub rest : List Tree
   pub parts_are : parts t ≡ a ∷ rest
   pub path : Path (At cs h) h cs cornered.next sb (end a) (end t) rest z sw
-  pub ended : Ended cs sw z (end t) (name t)
+  pub ended : Ended (At cs h) cs sw z (end t) (name t)
 
 -- the answer is the one node of a production that begins with left
 pub record Steps (cs : List Lexeme) (h : ℕ) (sa : Scope) (s : ℕ) (left : Found) (r : Option Found) : Type 0 where

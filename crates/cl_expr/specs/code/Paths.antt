@@ -1,6 +1,8 @@
 -- The parser's own view of a tree: its parts lie on a way through the places of its production. proofs/Bridge shows that such trees are those that derive.
 use Rattle.std.specs.Prelude.{◌≡◌, ℕ, zero, suc, ◌+◌, ◌≤◌, List, [], ◌∷◌, Option, Some, None, length, ◌⊎◌}
 use Rattle.cl_tree.specs.declared.class.Class.{Class}
+use Rattle.cl_tree.specs.declared.class.Class.TheVariants as cl
+use Rattle.cl_tree.specs.declared.grammar.Act.TheVariants as ac
 use Rattle.cl_tree.specs.declared.nonterminal.Nonterminal.{Nonterminal}
 use Rattle.cl_tree.specs.declared.grammar.Symbol.{Symbol}
 use Rattle.cl_tree.specs.declared.grammar.Symbol.TheVariants.{Token, Node, Entry}
@@ -24,9 +26,14 @@ name t = record { rule = (out-Tree t).rule; choice = (out-Tree t).choice }
 abbrev pub node : Label → ℕ → ℕ → List Tree → Tree
 node n from to ps = roll-Tree (record { rule = n.rule; choice = n.choice; from = from; to = to; parts = ps })
 
--- the production may end at a place of it, before the token that stands there
-abbrev pub Ended : List Lexeme → Scope → ℕ → ℕ → Label → Type 0
-Ended cs s z to n = (name_of z ≡ Some n) × ((k : Class) → class_at cs s to ≡ Some k → Has (bars z) k → ⊥)
+module _ (D : Nonterminal → ℕ → Scope → Tree → Scope → Type 0) (cs : List Lexeme) where
+  -- an `else` is there after which no statement derives
+  abbrev pub Lost : Class → Scope → ℕ → Type 0
+  Lost k s at = (k ≡ cl.Else) × ((t : Tree) (z : ℕ) (v : Scope) → D nt.Statement z (pass cs s ac.Close at) t v → start t ≡ at + 1 → ⊥)
+
+  -- the production may end at a place of it, before the token that stands there
+  abbrev pub Ended : Scope → ℕ → ℕ → Label → Type 0
+  Ended s z to n = (name_of z ≡ Some n) × ((k : Class) → class_at cs s to ≡ Some k → Has (bars z) k → Lost k s to)
 
 module _ (D : Nonterminal → ℕ → Scope → Tree → Scope → Type 0) (h : ℕ) (cs : List Lexeme) where
   -- a part that a symbol stands for, of a kind and with a height of at most h, and what is declared after it
@@ -51,7 +58,8 @@ module _ (D : Nonterminal → ℕ → Scope → Tree → Scope → Type 0) (h : 
 unfoldable pub Kind : List Lexeme → ℕ → ℕ → Scope → Tree → Scope → Type 0
 Kind cs zero z s t w = ⊥
 Kind cs (suc h) z s t w =
-    (v : Scope) × (w ≡ leave (scoped z) s v) × Ended cs v z (end t) (name t)
+    (v : Scope) × (w ≡ leave (scoped z) s v)
+    × Ended (λ g y s' p w'. Has (kinds g) y × Kind cs h y s' p w' × Opened cs g s' (start p)) cs v z (end t) (name t)
     × Path (λ g y s' p w'. Has (kinds g) y × Kind cs h y s' p w' × Opened cs g s' (start p)) h cs (home z) s (start t) (end t) (parts t) z v
 
 -- a tree of a nonterminal

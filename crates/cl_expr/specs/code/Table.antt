@@ -27,9 +27,9 @@ pub record Item : Type 0 where
   pub behind : ℕ
 
 -- a place: what may stand there, the node that may end there, what may not follow it and whether it is a block, the nonterminal with which its
--- production begins if that is read before, the places after a part that turns on its kind, whether the node is a declarator that names something,
--- the place where the production begins, whether it holds no block, the tokens that go on from where the node may end, and the productions that are
--- there
+-- production begins if that is read before, the places after a part that turns on its kind, whether the node is a declarator that names something or
+-- a statement that ends with an `if` without `else`, the place where the production begins, whether it holds no block, the tokens that go on from
+-- where the node may end, and the productions that are there
 pub record Place : Type 0 where
   pub edges : List Edge
   pub label : Option Label
@@ -891,180 +891,216 @@ places =
     row (e (Token (te.Is cl.Semicolon) ac.Stay) 403 ∷ []) None None false None None false 396 true [] (i 158 7 ∷ []) ∷
     -- 403: StaticAssertDeclaration -> StaticAssert Open ConstantExpression Comma String String* RightParen Semicolon .
     row [] (label ru.StaticAssertDeclaration 0) None false None None false 396 true [] (i 158 8 ∷ []) ∷
-    -- 404: LabeledStatement -> . Label Colon Statement; LabeledStatement -> . Case ConstantExpression Colon Statement ..
-    row (e (Token te.Label ac.Stay) 405 ∷ e (Token (te.Is cl.Case) ac.Stay) 408 ∷ e (Token (te.Is cl.Default) ac.Stay) 412 ∷ []) None None false None None false 404 false [] (i 159 0 ∷ i 160 0 ∷ i 161 0 ∷ []) ∷
-    -- 405: LabeledStatement -> Label . Colon Statement
-    row (e (Token (te.Is cl.Colon) ac.Stay) 406 ∷ []) None None false None None false 404 false [] (i 159 1 ∷ []) ∷
-    -- 406: LabeledStatement -> Label Colon . Statement
-    row (e (Node nt.Statement) 407 ∷ []) None None false None None false 404 false [] (i 159 2 ∷ []) ∷
-    -- 407: LabeledStatement -> Label Colon Statement .
+    -- 404: ClosedLabeledStatement -> . Label Colon ClosedStatement; ClosedLabeledStatement -> . Case ConstantExpression Colon ClosedStatement ..
+    row (e (Token te.Label ac.Stay) 405 ∷ e (Token (te.Is cl.Case) ac.Stay) 410 ∷ e (Token (te.Is cl.Default) ac.Stay) 416 ∷ []) None None false None None false 404 false [] (i 159 0 ∷ i 160 0 ∷ i 161 0 ∷ i 162 0 ∷ i 163 0 ∷ i 164 0 ∷ []) ∷
+    -- 405: ClosedLabeledStatement -> Label . Colon ClosedStatement; OpenLabeledStatement -> Label . Colon OpenStatement
+    row (e (Token (te.Is cl.Colon) ac.Stay) 406 ∷ []) None None false None None false 404 false [] (i 159 1 ∷ i 162 1 ∷ []) ∷
+    -- 406: ClosedLabeledStatement -> Label Colon . ClosedStatement; OpenLabeledStatement -> Label Colon . OpenStatement
+    row (e (Node nt.Statement) 407 ∷ []) None None false None None false 404 false [] (i 159 2 ∷ i 162 2 ∷ []) ∷
+    -- 407: a statement was read
+    row [] None None false None (ways 408 409) false 404 false [] [] ∷
+    -- 408: OpenLabeledStatement -> Label Colon OpenStatement .
+    row [] (label ru.LabeledStatement 0) None false None None true 404 false [] (i 162 3 ∷ []) ∷
+    -- 409: ClosedLabeledStatement -> Label Colon ClosedStatement .
     row [] (label ru.LabeledStatement 0) None false None None false 404 false [] (i 159 3 ∷ []) ∷
-    -- 408: LabeledStatement -> Case . ConstantExpression Colon Statement
-    row (e (Node nt.ConstantExpression) 409 ∷ []) None None false None None false 404 false [] (i 160 1 ∷ []) ∷
-    -- 409: LabeledStatement -> Case ConstantExpression . Colon Statement
-    row (e (Token (te.Is cl.Colon) ac.Stay) 410 ∷ []) None None false None None false 404 false [] (i 160 2 ∷ []) ∷
-    -- 410: LabeledStatement -> Case ConstantExpression Colon . Statement
-    row (e (Node nt.Statement) 411 ∷ []) None None false None None false 404 false [] (i 160 3 ∷ []) ∷
-    -- 411: LabeledStatement -> Case ConstantExpression Colon Statement .
+    -- 410: ClosedLabeledStatement -> Case . ConstantExpression Colon ClosedStatement; OpenLabeledStatement -> Case . ConstantExpression Colon OpenStatement
+    row (e (Node nt.ConstantExpression) 411 ∷ []) None None false None None false 404 false [] (i 160 1 ∷ i 163 1 ∷ []) ∷
+    -- 411: ClosedLabeledStatement -> Case ConstantExpression . Colon ClosedStatement; OpenLabeledStatement -> Case ConstantExpression . Colon OpenStatement
+    row (e (Token (te.Is cl.Colon) ac.Stay) 412 ∷ []) None None false None None false 404 false [] (i 160 2 ∷ i 163 2 ∷ []) ∷
+    -- 412: ClosedLabeledStatement -> Case ConstantExpression Colon . ClosedStatement; OpenLabeledStatement -> Case ConstantExpression Colon . OpenStatement
+    row (e (Node nt.Statement) 413 ∷ []) None None false None None false 404 false [] (i 160 3 ∷ i 163 3 ∷ []) ∷
+    -- 413: a statement was read
+    row [] None None false None (ways 414 415) false 404 false [] [] ∷
+    -- 414: OpenLabeledStatement -> Case ConstantExpression Colon OpenStatement .
+    row [] (label ru.LabeledStatement 1) None false None None true 404 false [] (i 163 4 ∷ []) ∷
+    -- 415: ClosedLabeledStatement -> Case ConstantExpression Colon ClosedStatement .
     row [] (label ru.LabeledStatement 1) None false None None false 404 false [] (i 160 4 ∷ []) ∷
-    -- 412: LabeledStatement -> Default . Colon Statement
-    row (e (Token (te.Is cl.Colon) ac.Stay) 413 ∷ []) None None false None None false 404 false [] (i 161 1 ∷ []) ∷
-    -- 413: LabeledStatement -> Default Colon . Statement
-    row (e (Node nt.Statement) 414 ∷ []) None None false None None false 404 false [] (i 161 2 ∷ []) ∷
-    -- 414: LabeledStatement -> Default Colon Statement .
+    -- 416: ClosedLabeledStatement -> Default . Colon ClosedStatement; OpenLabeledStatement -> Default . Colon OpenStatement
+    row (e (Token (te.Is cl.Colon) ac.Stay) 417 ∷ []) None None false None None false 404 false [] (i 161 1 ∷ i 164 1 ∷ []) ∷
+    -- 417: ClosedLabeledStatement -> Default Colon . ClosedStatement; OpenLabeledStatement -> Default Colon . OpenStatement
+    row (e (Node nt.Statement) 418 ∷ []) None None false None None false 404 false [] (i 161 2 ∷ i 164 2 ∷ []) ∷
+    -- 418: a statement was read
+    row [] None None false None (ways 419 420) false 404 false [] [] ∷
+    -- 419: OpenLabeledStatement -> Default Colon OpenStatement .
+    row [] (label ru.LabeledStatement 2) None false None None true 404 false [] (i 164 3 ∷ []) ∷
+    -- 420: ClosedLabeledStatement -> Default Colon ClosedStatement .
     row [] (label ru.LabeledStatement 2) None false None None false 404 false [] (i 161 3 ∷ []) ∷
-    -- 415: CompoundStatement -> . LeftBrace BlockItemList? RightBrace
-    row (e (Token (te.Is cl.LeftBrace) ac.Open) 416 ∷ []) None None false None None false 415 false [] (i 162 0 ∷ []) ∷
-    -- 416: CompoundStatement -> LeftBrace . BlockItemList? RightBrace
-    row (e (Node nt.BlockItemList) 417 ∷ e (Token (te.Is cl.RightBrace) ac.Close) 418 ∷ []) None None false None None false 415 false [] (i 162 1 ∷ []) ∷
-    -- 417: CompoundStatement -> LeftBrace BlockItemList? . RightBrace
-    row (e (Token (te.Is cl.RightBrace) ac.Close) 418 ∷ []) None None false None None false 415 false [] (i 162 2 ∷ []) ∷
-    -- 418: CompoundStatement -> LeftBrace BlockItemList? RightBrace .
-    row [] (label ru.CompoundStatement 0) None false None None false 415 false [] (i 162 3 ∷ []) ∷
-    -- 419: BlockItemList -> . BlockItem BlockItem*
-    row (e Entry 420 ∷ []) None None false None None false 419 false (cl.Ident ∷ cl.IdentColon ∷ cl.TypedefName ∷ cl.TypedefColon ∷ cl.Constant ∷ cl.String ∷ cl.LeftParen ∷ cl.TypeParen ∷ cl.LiteralParen ∷ cl.RightParen ∷ cl.LeftBracket ∷ cl.RightBracket ∷ cl.LeftBrace ∷ cl.Dot ∷ cl.Arrow ∷ cl.PlusPlus ∷ cl.MinusMinus ∷ cl.Ampersand ∷ cl.Star ∷ cl.StarBracket ∷ cl.Plus ∷ cl.Minus ∷ cl.Tilde ∷ cl.Bang ∷ cl.Slash ∷ cl.Percent ∷ cl.ShiftLeft ∷ cl.ShiftRight ∷ cl.Less ∷ cl.Greater ∷ cl.LessEqual ∷ cl.GreaterEqual ∷ cl.EqualEqual ∷ cl.BangEqual ∷ cl.Caret ∷ cl.Bar ∷ cl.AndAnd ∷ cl.OrOr ∷ cl.Question ∷ cl.Colon ∷ cl.Semicolon ∷ cl.Ellipsis ∷ cl.Comma ∷ cl.LastComma ∷ cl.DesignationComma ∷ cl.Equal ∷ cl.StarEqual ∷ cl.SlashEqual ∷ cl.PercentEqual ∷ cl.PlusEqual ∷ cl.MinusEqual ∷ cl.ShiftLeftEqual ∷ cl.ShiftRightEqual ∷ cl.AmpersandEqual ∷ cl.CaretEqual ∷ cl.BarEqual ∷ cl.Sizeof ∷ cl.Alignof ∷ cl.Generic ∷ cl.Default ∷ cl.Case ∷ cl.If ∷ cl.Else ∷ cl.Switch ∷ cl.While ∷ cl.Do ∷ cl.For ∷ cl.Goto ∷ cl.Continue ∷ cl.Break ∷ cl.Return ∷ cl.StaticAssert ∷ cl.Typedef ∷ cl.Extern ∷ cl.Static ∷ cl.ThreadLocal ∷ cl.Auto ∷ cl.Register ∷ cl.Void ∷ cl.Char ∷ cl.Short ∷ cl.Int ∷ cl.Long ∷ cl.Float ∷ cl.Double ∷ cl.Signed ∷ cl.Unsigned ∷ cl.Bool ∷ cl.Struct ∷ cl.Union ∷ cl.Enum ∷ cl.Const ∷ cl.Restrict ∷ cl.Volatile ∷ cl.Atomic ∷ cl.AtomicParen ∷ cl.Inline ∷ cl.Noreturn ∷ cl.Alignas ∷ cl.Other ∷ []) (i 163 0 ∷ []) ∷
-    -- 420: BlockItemList -> BlockItem . BlockItem*
-    row (e Entry 420 ∷ []) (label ru.BlockItemList 0) None false None None false 419 false (cl.Ident ∷ cl.IdentColon ∷ cl.TypedefName ∷ cl.TypedefColon ∷ cl.Constant ∷ cl.String ∷ cl.LeftParen ∷ cl.TypeParen ∷ cl.LiteralParen ∷ cl.RightParen ∷ cl.LeftBracket ∷ cl.RightBracket ∷ cl.LeftBrace ∷ cl.Dot ∷ cl.Arrow ∷ cl.PlusPlus ∷ cl.MinusMinus ∷ cl.Ampersand ∷ cl.Star ∷ cl.StarBracket ∷ cl.Plus ∷ cl.Minus ∷ cl.Tilde ∷ cl.Bang ∷ cl.Slash ∷ cl.Percent ∷ cl.ShiftLeft ∷ cl.ShiftRight ∷ cl.Less ∷ cl.Greater ∷ cl.LessEqual ∷ cl.GreaterEqual ∷ cl.EqualEqual ∷ cl.BangEqual ∷ cl.Caret ∷ cl.Bar ∷ cl.AndAnd ∷ cl.OrOr ∷ cl.Question ∷ cl.Colon ∷ cl.Semicolon ∷ cl.Ellipsis ∷ cl.Comma ∷ cl.LastComma ∷ cl.DesignationComma ∷ cl.Equal ∷ cl.StarEqual ∷ cl.SlashEqual ∷ cl.PercentEqual ∷ cl.PlusEqual ∷ cl.MinusEqual ∷ cl.ShiftLeftEqual ∷ cl.ShiftRightEqual ∷ cl.AmpersandEqual ∷ cl.CaretEqual ∷ cl.BarEqual ∷ cl.Sizeof ∷ cl.Alignof ∷ cl.Generic ∷ cl.Default ∷ cl.Case ∷ cl.If ∷ cl.Else ∷ cl.Switch ∷ cl.While ∷ cl.Do ∷ cl.For ∷ cl.Goto ∷ cl.Continue ∷ cl.Break ∷ cl.Return ∷ cl.StaticAssert ∷ cl.Typedef ∷ cl.Extern ∷ cl.Static ∷ cl.ThreadLocal ∷ cl.Auto ∷ cl.Register ∷ cl.Void ∷ cl.Char ∷ cl.Short ∷ cl.Int ∷ cl.Long ∷ cl.Float ∷ cl.Double ∷ cl.Signed ∷ cl.Unsigned ∷ cl.Bool ∷ cl.Struct ∷ cl.Union ∷ cl.Enum ∷ cl.Const ∷ cl.Restrict ∷ cl.Volatile ∷ cl.Atomic ∷ cl.AtomicParen ∷ cl.Inline ∷ cl.Noreturn ∷ cl.Alignas ∷ cl.Other ∷ []) (i 163 1 ∷ []) ∷
-    -- 421: ExpressionStatement -> . UnlabelledExpression? Semicolon
-    row (e (Node nt.UnlabelledExpression) 422 ∷ e (Token (te.Is cl.Semicolon) ac.Stay) 423 ∷ []) None None false None None false 421 true [] (i 164 0 ∷ []) ∷
-    -- 422: ExpressionStatement -> UnlabelledExpression? . Semicolon
-    row (e (Token (te.Is cl.Semicolon) ac.Stay) 423 ∷ []) None None false None None false 421 true [] (i 164 1 ∷ []) ∷
-    -- 423: ExpressionStatement -> UnlabelledExpression? Semicolon .
-    row [] (label ru.ExpressionStatement 0) None false None None false 421 true [] (i 164 2 ∷ []) ∷
-    -- 424: SelectionStatement -> . If Open Expression RightParen Statement; SelectionStatement -> . If Open Expression RightParen Statement Else Statement ..
-    row (e (Token (te.Is cl.If) ac.Stay) 425 ∷ e (Token (te.Is cl.Switch) ac.Stay) 432 ∷ []) None None false None None false 424 false [] (i 165 0 ∷ i 166 0 ∷ i 167 0 ∷ []) ∷
-    -- 425: SelectionStatement -> If . Open Expression RightParen Statement; SelectionStatement -> If . Open Expression RightParen Statement Else Statement
-    row (e (Token te.Open ac.Stay) 426 ∷ []) None None false None None false 424 false [] (i 165 1 ∷ i 166 1 ∷ []) ∷
-    -- 426: SelectionStatement -> If Open . Expression RightParen Statement; SelectionStatement -> If Open . Expression RightParen Statement Else Statement
-    row (e (Node nt.Expression) 427 ∷ []) None None false None None false 424 false [] (i 165 2 ∷ i 166 2 ∷ []) ∷
-    -- 427: SelectionStatement -> If Open Expression . RightParen Statement; SelectionStatement -> If Open Expression . RightParen Statement Else Statement
-    row (e (Token (te.Is cl.RightParen) ac.Open) 428 ∷ []) None None false None None false 424 false [] (i 165 3 ∷ i 166 3 ∷ []) ∷
-    -- 428: SelectionStatement -> If Open Expression RightParen . Statement; SelectionStatement -> If Open Expression RightParen . Statement Else Statement
-    row (e (Node nt.Statement) 429 ∷ []) None None false None None false 424 false [] (i 165 4 ∷ i 166 4 ∷ []) ∷
-    -- 429: SelectionStatement -> If Open Expression RightParen Statement .; SelectionStatement -> If Open Expression RightParen Statement . Else Statement
-    row (e (Token (te.Is cl.Else) ac.Close) 430 ∷ []) (label ru.SelectionStatement 0) (Some (te.Is cl.Else)) true None None false 424 false [] (i 165 5 ∷ i 166 5 ∷ []) ∷
-    -- 430: SelectionStatement -> If Open Expression RightParen Statement Else . Statement
-    row (e (Node nt.Statement) 431 ∷ []) None None false None None false 424 false [] (i 166 6 ∷ []) ∷
-    -- 431: SelectionStatement -> If Open Expression RightParen Statement Else Statement .
-    row [] (label ru.SelectionStatement 1) None true None None false 424 false [] (i 166 7 ∷ []) ∷
-    -- 432: SelectionStatement -> Switch . Open Expression RightParen Statement
-    row (e (Token te.Open ac.Stay) 433 ∷ []) None None false None None false 424 false [] (i 167 1 ∷ []) ∷
-    -- 433: SelectionStatement -> Switch Open . Expression RightParen Statement
-    row (e (Node nt.Expression) 434 ∷ []) None None false None None false 424 false [] (i 167 2 ∷ []) ∷
-    -- 434: SelectionStatement -> Switch Open Expression . RightParen Statement
-    row (e (Token (te.Is cl.RightParen) ac.Stay) 435 ∷ []) None None false None None false 424 false [] (i 167 3 ∷ []) ∷
-    -- 435: SelectionStatement -> Switch Open Expression RightParen . Statement
-    row (e (Node nt.Statement) 436 ∷ []) None None false None None false 424 false [] (i 167 4 ∷ []) ∷
-    -- 436: SelectionStatement -> Switch Open Expression RightParen Statement .
-    row [] (label ru.SelectionStatement 2) None true None None false 424 false [] (i 167 5 ∷ []) ∷
-    -- 437: IterationStatement -> . While Open Expression RightParen Statement; IterationStatement -> . Do Statement While Open Expression RightParen Semicolon ..
-    row (e (Token (te.Is cl.While) ac.Stay) 438 ∷ e (Token (te.Is cl.Do) ac.Open) 443 ∷ e (Token (te.Is cl.For) ac.Stay) 450 ∷ []) None None false None None false 437 false [] (i 168 0 ∷ i 169 0 ∷ i 170 0 ∷ i 171 0 ∷ []) ∷
-    -- 438: IterationStatement -> While . Open Expression RightParen Statement
-    row (e (Token te.Open ac.Stay) 439 ∷ []) None None false None None false 437 false [] (i 168 1 ∷ []) ∷
-    -- 439: IterationStatement -> While Open . Expression RightParen Statement
-    row (e (Node nt.Expression) 440 ∷ []) None None false None None false 437 false [] (i 168 2 ∷ []) ∷
-    -- 440: IterationStatement -> While Open Expression . RightParen Statement
-    row (e (Token (te.Is cl.RightParen) ac.Stay) 441 ∷ []) None None false None None false 437 false [] (i 168 3 ∷ []) ∷
-    -- 441: IterationStatement -> While Open Expression RightParen . Statement
-    row (e (Node nt.Statement) 442 ∷ []) None None false None None false 437 false [] (i 168 4 ∷ []) ∷
-    -- 442: IterationStatement -> While Open Expression RightParen Statement .
-    row [] (label ru.IterationStatement 0) None true None None false 437 false [] (i 168 5 ∷ []) ∷
-    -- 443: IterationStatement -> Do . Statement While Open Expression RightParen Semicolon
-    row (e (Node nt.Statement) 444 ∷ []) None None false None None false 437 false [] (i 169 1 ∷ []) ∷
-    -- 444: IterationStatement -> Do Statement . While Open Expression RightParen Semicolon
-    row (e (Token (te.Is cl.While) ac.Close) 445 ∷ []) None None false None None false 437 false [] (i 169 2 ∷ []) ∷
-    -- 445: IterationStatement -> Do Statement While . Open Expression RightParen Semicolon
-    row (e (Token te.Open ac.Stay) 446 ∷ []) None None false None None false 437 false [] (i 169 3 ∷ []) ∷
-    -- 446: IterationStatement -> Do Statement While Open . Expression RightParen Semicolon
-    row (e (Node nt.Expression) 447 ∷ []) None None false None None false 437 false [] (i 169 4 ∷ []) ∷
-    -- 447: IterationStatement -> Do Statement While Open Expression . RightParen Semicolon
-    row (e (Token (te.Is cl.RightParen) ac.Stay) 448 ∷ []) None None false None None false 437 false [] (i 169 5 ∷ []) ∷
-    -- 448: IterationStatement -> Do Statement While Open Expression RightParen . Semicolon
-    row (e (Token (te.Is cl.Semicolon) ac.Stay) 449 ∷ []) None None false None None false 437 false [] (i 169 6 ∷ []) ∷
-    -- 449: IterationStatement -> Do Statement While Open Expression RightParen Semicolon .
-    row [] (label ru.IterationStatement 1) None true None None false 437 false [] (i 169 7 ∷ []) ∷
-    -- 450: IterationStatement -> For . Open PlainExpression? Semicolon Expression? Semicolon Expression? RightParen Statement; IterationStatement -> For . Open Declaration Expression? Semicolon Expression? RightParen Statement
-    row (e (Token te.Open ac.Stay) 451 ∷ []) None None false None None false 437 false [] (i 170 1 ∷ i 171 1 ∷ []) ∷
-    -- 451: IterationStatement -> For Open . PlainExpression? Semicolon Expression? Semicolon Expression? RightParen Statement; IterationStatement -> For Open . Declaration Expression? Semicolon Expression? RightParen Statement
-    row (e (Node nt.PlainExpression) 452 ∷ e (Token (te.Is cl.Semicolon) ac.Stay) 453 ∷ e (Node nt.Declaration) 459 ∷ []) None None false None None false 437 false [] (i 170 2 ∷ i 171 2 ∷ []) ∷
-    -- 452: IterationStatement -> For Open PlainExpression? . Semicolon Expression? Semicolon Expression? RightParen Statement
-    row (e (Token (te.Is cl.Semicolon) ac.Stay) 453 ∷ []) None None false None None false 437 false [] (i 170 3 ∷ []) ∷
-    -- 453: IterationStatement -> For Open PlainExpression? Semicolon . Expression? Semicolon Expression? RightParen Statement
-    row (e (Node nt.Expression) 454 ∷ e (Token (te.Is cl.Semicolon) ac.Stay) 455 ∷ []) None None false None None false 437 false [] (i 170 4 ∷ []) ∷
-    -- 454: IterationStatement -> For Open PlainExpression? Semicolon Expression? . Semicolon Expression? RightParen Statement
-    row (e (Token (te.Is cl.Semicolon) ac.Stay) 455 ∷ []) None None false None None false 437 false [] (i 170 5 ∷ []) ∷
-    -- 455: IterationStatement -> For Open PlainExpression? Semicolon Expression? Semicolon . Expression? RightParen Statement
-    row (e (Node nt.Expression) 456 ∷ e (Token (te.Is cl.RightParen) ac.Stay) 457 ∷ []) None None false None None false 437 false [] (i 170 6 ∷ []) ∷
-    -- 456: IterationStatement -> For Open PlainExpression? Semicolon Expression? Semicolon Expression? . RightParen Statement
-    row (e (Token (te.Is cl.RightParen) ac.Stay) 457 ∷ []) None None false None None false 437 false [] (i 170 7 ∷ []) ∷
-    -- 457: IterationStatement -> For Open PlainExpression? Semicolon Expression? Semicolon Expression? RightParen . Statement
-    row (e (Node nt.Statement) 458 ∷ []) None None false None None false 437 false [] (i 170 8 ∷ []) ∷
-    -- 458: IterationStatement -> For Open PlainExpression? Semicolon Expression? Semicolon Expression? RightParen Statement .
-    row [] (label ru.IterationStatement 2) None true None None false 437 false [] (i 170 9 ∷ []) ∷
-    -- 459: IterationStatement -> For Open Declaration . Expression? Semicolon Expression? RightParen Statement
-    row (e (Node nt.Expression) 460 ∷ e (Token (te.Is cl.Semicolon) ac.Stay) 461 ∷ []) None None false None None false 437 false [] (i 171 3 ∷ []) ∷
-    -- 460: IterationStatement -> For Open Declaration Expression? . Semicolon Expression? RightParen Statement
-    row (e (Token (te.Is cl.Semicolon) ac.Stay) 461 ∷ []) None None false None None false 437 false [] (i 171 4 ∷ []) ∷
-    -- 461: IterationStatement -> For Open Declaration Expression? Semicolon . Expression? RightParen Statement
-    row (e (Node nt.Expression) 462 ∷ e (Token (te.Is cl.RightParen) ac.Stay) 463 ∷ []) None None false None None false 437 false [] (i 171 5 ∷ []) ∷
-    -- 462: IterationStatement -> For Open Declaration Expression? Semicolon Expression? . RightParen Statement
-    row (e (Token (te.Is cl.RightParen) ac.Stay) 463 ∷ []) None None false None None false 437 false [] (i 171 6 ∷ []) ∷
-    -- 463: IterationStatement -> For Open Declaration Expression? Semicolon Expression? RightParen . Statement
-    row (e (Node nt.Statement) 464 ∷ []) None None false None None false 437 false [] (i 171 7 ∷ []) ∷
-    -- 464: IterationStatement -> For Open Declaration Expression? Semicolon Expression? RightParen Statement .
-    row [] (label ru.IterationStatement 3) None true None None false 437 false [] (i 171 8 ∷ []) ∷
-    -- 465: JumpStatement -> . Goto Name Semicolon; JumpStatement -> . Continue Semicolon ..
-    row (e (Token (te.Is cl.Goto) ac.Stay) 466 ∷ e (Token (te.Is cl.Continue) ac.Stay) 469 ∷ e (Token (te.Is cl.Break) ac.Stay) 471 ∷ e (Token (te.Is cl.Return) ac.Stay) 473 ∷ []) None None false None None false 465 true [] (i 172 0 ∷ i 173 0 ∷ i 174 0 ∷ i 175 0 ∷ []) ∷
-    -- 466: JumpStatement -> Goto . Name Semicolon
-    row (e (Token te.Name ac.Stay) 467 ∷ []) None None false None None false 465 true [] (i 172 1 ∷ []) ∷
-    -- 467: JumpStatement -> Goto Name . Semicolon
-    row (e (Token (te.Is cl.Semicolon) ac.Stay) 468 ∷ []) None None false None None false 465 true [] (i 172 2 ∷ []) ∷
-    -- 468: JumpStatement -> Goto Name Semicolon .
-    row [] (label ru.JumpStatement 0) None false None None false 465 true [] (i 172 3 ∷ []) ∷
-    -- 469: JumpStatement -> Continue . Semicolon
-    row (e (Token (te.Is cl.Semicolon) ac.Stay) 470 ∷ []) None None false None None false 465 true [] (i 173 1 ∷ []) ∷
-    -- 470: JumpStatement -> Continue Semicolon .
-    row [] (label ru.JumpStatement 1) None false None None false 465 true [] (i 173 2 ∷ []) ∷
-    -- 471: JumpStatement -> Break . Semicolon
-    row (e (Token (te.Is cl.Semicolon) ac.Stay) 472 ∷ []) None None false None None false 465 true [] (i 174 1 ∷ []) ∷
-    -- 472: JumpStatement -> Break Semicolon .
-    row [] (label ru.JumpStatement 2) None false None None false 465 true [] (i 174 2 ∷ []) ∷
-    -- 473: JumpStatement -> Return . Expression? Semicolon
-    row (e (Node nt.Expression) 474 ∷ e (Token (te.Is cl.Semicolon) ac.Stay) 475 ∷ []) None None false None None false 465 true [] (i 175 1 ∷ []) ∷
-    -- 474: JumpStatement -> Return Expression? . Semicolon
-    row (e (Token (te.Is cl.Semicolon) ac.Stay) 475 ∷ []) None None false None None false 465 true [] (i 175 2 ∷ []) ∷
-    -- 475: JumpStatement -> Return Expression? Semicolon .
-    row [] (label ru.JumpStatement 3) None false None None false 465 true [] (i 175 3 ∷ []) ∷
-    -- 476: BlockExpressionStatement -> . PlainExpression? Semicolon
-    row (e (Node nt.PlainExpression) 477 ∷ e (Token (te.Is cl.Semicolon) ac.Stay) 478 ∷ []) None None false None None false 476 true [] (i 176 0 ∷ []) ∷
-    -- 477: BlockExpressionStatement -> PlainExpression? . Semicolon
-    row (e (Token (te.Is cl.Semicolon) ac.Stay) 478 ∷ []) None None false None None false 476 true [] (i 176 1 ∷ []) ∷
-    -- 478: BlockExpressionStatement -> PlainExpression? Semicolon .
-    row [] (label ru.ExpressionStatement 0) None false None None false 476 true [] (i 176 2 ∷ []) ∷
-    -- 479: BlockDeclaration -> . BlockSpecifiers InitDeclaratorList? Semicolon
-    row (e (Node nt.BlockSpecifiers) 480 ∷ []) None None false None None false 479 true [] (i 177 0 ∷ []) ∷
-    -- 480: BlockDeclaration -> BlockSpecifiers . InitDeclaratorList? Semicolon
-    row (e (Node nt.InitDeclaratorList) 481 ∷ e (Token (te.Is cl.Semicolon) ac.Finish) 482 ∷ []) None None false None None false 479 true [] (i 177 1 ∷ []) ∷
-    -- 481: BlockDeclaration -> BlockSpecifiers InitDeclaratorList? . Semicolon
-    row (e (Token (te.Is cl.Semicolon) ac.Finish) 482 ∷ []) None None false None None false 479 true [] (i 177 2 ∷ []) ∷
-    -- 482: BlockDeclaration -> BlockSpecifiers InitDeclaratorList? Semicolon .
-    row [] (label ru.Declaration 0) None false None None false 479 true [] (i 177 3 ∷ []) ∷
-    -- 483: FunctionDefinition -> . DeclarationSpecifiers Declarator FunctionBody
-    row (e (Node nt.DeclarationSpecifiers) 484 ∷ []) None None false None None false 483 false [] (i 178 0 ∷ []) ∷
-    -- 484: FunctionDefinition -> DeclarationSpecifiers . Declarator FunctionBody
-    row (e (Node nt.Declarator) 485 ∷ []) None None false None None false 483 false [] (i 178 1 ∷ []) ∷
-    -- 485: FunctionDefinition -> DeclarationSpecifiers Declarator . FunctionBody
-    row (e (Node nt.FunctionBody) 486 ∷ []) None None false None None false 483 false [] (i 178 2 ∷ []) ∷
-    -- 486: FunctionDefinition -> DeclarationSpecifiers Declarator FunctionBody .
-    row [] (label ru.FunctionDefinition 0) None false None None false 483 false [] (i 178 3 ∷ []) ∷
-    -- 487: FunctionBody -> . LeftBrace BlockItemList? RightBrace
-    row (e (Token (te.Is cl.LeftBrace) ac.Begin) 488 ∷ []) None None false None None false 487 false [] (i 179 0 ∷ []) ∷
-    -- 488: FunctionBody -> LeftBrace . BlockItemList? RightBrace
-    row (e (Node nt.BlockItemList) 489 ∷ e (Token (te.Is cl.RightBrace) ac.Close) 490 ∷ []) None None false None None false 487 false [] (i 179 1 ∷ []) ∷
-    -- 489: FunctionBody -> LeftBrace BlockItemList? . RightBrace
-    row (e (Token (te.Is cl.RightBrace) ac.Close) 490 ∷ []) None None false None None false 487 false [] (i 179 2 ∷ []) ∷
-    -- 490: FunctionBody -> LeftBrace BlockItemList? RightBrace .
-    row [] (label ru.CompoundStatement 0) None false None None false 487 false [] (i 179 3 ∷ []) ∷
+    -- 421: CompoundStatement -> . LeftBrace BlockItemList? RightBrace
+    row (e (Token (te.Is cl.LeftBrace) ac.Open) 422 ∷ []) None None false None None false 421 false [] (i 165 0 ∷ []) ∷
+    -- 422: CompoundStatement -> LeftBrace . BlockItemList? RightBrace
+    row (e (Node nt.BlockItemList) 423 ∷ e (Token (te.Is cl.RightBrace) ac.Close) 424 ∷ []) None None false None None false 421 false [] (i 165 1 ∷ []) ∷
+    -- 423: CompoundStatement -> LeftBrace BlockItemList? . RightBrace
+    row (e (Token (te.Is cl.RightBrace) ac.Close) 424 ∷ []) None None false None None false 421 false [] (i 165 2 ∷ []) ∷
+    -- 424: CompoundStatement -> LeftBrace BlockItemList? RightBrace .
+    row [] (label ru.CompoundStatement 0) None false None None false 421 false [] (i 165 3 ∷ []) ∷
+    -- 425: BlockItemList -> . BlockItem BlockItem*
+    row (e Entry 426 ∷ []) None None false None None false 425 false (cl.Ident ∷ cl.IdentColon ∷ cl.TypedefName ∷ cl.TypedefColon ∷ cl.Constant ∷ cl.String ∷ cl.LeftParen ∷ cl.TypeParen ∷ cl.LiteralParen ∷ cl.RightParen ∷ cl.LeftBracket ∷ cl.RightBracket ∷ cl.LeftBrace ∷ cl.Dot ∷ cl.Arrow ∷ cl.PlusPlus ∷ cl.MinusMinus ∷ cl.Ampersand ∷ cl.Star ∷ cl.StarBracket ∷ cl.Plus ∷ cl.Minus ∷ cl.Tilde ∷ cl.Bang ∷ cl.Slash ∷ cl.Percent ∷ cl.ShiftLeft ∷ cl.ShiftRight ∷ cl.Less ∷ cl.Greater ∷ cl.LessEqual ∷ cl.GreaterEqual ∷ cl.EqualEqual ∷ cl.BangEqual ∷ cl.Caret ∷ cl.Bar ∷ cl.AndAnd ∷ cl.OrOr ∷ cl.Question ∷ cl.Colon ∷ cl.Semicolon ∷ cl.Ellipsis ∷ cl.Comma ∷ cl.LastComma ∷ cl.DesignationComma ∷ cl.Equal ∷ cl.StarEqual ∷ cl.SlashEqual ∷ cl.PercentEqual ∷ cl.PlusEqual ∷ cl.MinusEqual ∷ cl.ShiftLeftEqual ∷ cl.ShiftRightEqual ∷ cl.AmpersandEqual ∷ cl.CaretEqual ∷ cl.BarEqual ∷ cl.Sizeof ∷ cl.Alignof ∷ cl.Generic ∷ cl.Default ∷ cl.Case ∷ cl.If ∷ cl.Else ∷ cl.Switch ∷ cl.While ∷ cl.Do ∷ cl.For ∷ cl.Goto ∷ cl.Continue ∷ cl.Break ∷ cl.Return ∷ cl.StaticAssert ∷ cl.Typedef ∷ cl.Extern ∷ cl.Static ∷ cl.ThreadLocal ∷ cl.Auto ∷ cl.Register ∷ cl.Void ∷ cl.Char ∷ cl.Short ∷ cl.Int ∷ cl.Long ∷ cl.Float ∷ cl.Double ∷ cl.Signed ∷ cl.Unsigned ∷ cl.Bool ∷ cl.Struct ∷ cl.Union ∷ cl.Enum ∷ cl.Const ∷ cl.Restrict ∷ cl.Volatile ∷ cl.Atomic ∷ cl.AtomicParen ∷ cl.Inline ∷ cl.Noreturn ∷ cl.Alignas ∷ cl.Other ∷ []) (i 166 0 ∷ []) ∷
+    -- 426: BlockItemList -> BlockItem . BlockItem*
+    row (e Entry 426 ∷ []) (label ru.BlockItemList 0) None false None None false 425 false (cl.Ident ∷ cl.IdentColon ∷ cl.TypedefName ∷ cl.TypedefColon ∷ cl.Constant ∷ cl.String ∷ cl.LeftParen ∷ cl.TypeParen ∷ cl.LiteralParen ∷ cl.RightParen ∷ cl.LeftBracket ∷ cl.RightBracket ∷ cl.LeftBrace ∷ cl.Dot ∷ cl.Arrow ∷ cl.PlusPlus ∷ cl.MinusMinus ∷ cl.Ampersand ∷ cl.Star ∷ cl.StarBracket ∷ cl.Plus ∷ cl.Minus ∷ cl.Tilde ∷ cl.Bang ∷ cl.Slash ∷ cl.Percent ∷ cl.ShiftLeft ∷ cl.ShiftRight ∷ cl.Less ∷ cl.Greater ∷ cl.LessEqual ∷ cl.GreaterEqual ∷ cl.EqualEqual ∷ cl.BangEqual ∷ cl.Caret ∷ cl.Bar ∷ cl.AndAnd ∷ cl.OrOr ∷ cl.Question ∷ cl.Colon ∷ cl.Semicolon ∷ cl.Ellipsis ∷ cl.Comma ∷ cl.LastComma ∷ cl.DesignationComma ∷ cl.Equal ∷ cl.StarEqual ∷ cl.SlashEqual ∷ cl.PercentEqual ∷ cl.PlusEqual ∷ cl.MinusEqual ∷ cl.ShiftLeftEqual ∷ cl.ShiftRightEqual ∷ cl.AmpersandEqual ∷ cl.CaretEqual ∷ cl.BarEqual ∷ cl.Sizeof ∷ cl.Alignof ∷ cl.Generic ∷ cl.Default ∷ cl.Case ∷ cl.If ∷ cl.Else ∷ cl.Switch ∷ cl.While ∷ cl.Do ∷ cl.For ∷ cl.Goto ∷ cl.Continue ∷ cl.Break ∷ cl.Return ∷ cl.StaticAssert ∷ cl.Typedef ∷ cl.Extern ∷ cl.Static ∷ cl.ThreadLocal ∷ cl.Auto ∷ cl.Register ∷ cl.Void ∷ cl.Char ∷ cl.Short ∷ cl.Int ∷ cl.Long ∷ cl.Float ∷ cl.Double ∷ cl.Signed ∷ cl.Unsigned ∷ cl.Bool ∷ cl.Struct ∷ cl.Union ∷ cl.Enum ∷ cl.Const ∷ cl.Restrict ∷ cl.Volatile ∷ cl.Atomic ∷ cl.AtomicParen ∷ cl.Inline ∷ cl.Noreturn ∷ cl.Alignas ∷ cl.Other ∷ []) (i 166 1 ∷ []) ∷
+    -- 427: ExpressionStatement -> . UnlabelledExpression? Semicolon
+    row (e (Node nt.UnlabelledExpression) 428 ∷ e (Token (te.Is cl.Semicolon) ac.Stay) 429 ∷ []) None None false None None false 427 true [] (i 167 0 ∷ []) ∷
+    -- 428: ExpressionStatement -> UnlabelledExpression? . Semicolon
+    row (e (Token (te.Is cl.Semicolon) ac.Stay) 429 ∷ []) None None false None None false 427 true [] (i 167 1 ∷ []) ∷
+    -- 429: ExpressionStatement -> UnlabelledExpression? Semicolon .
+    row [] (label ru.ExpressionStatement 0) None false None None false 427 true [] (i 167 2 ∷ []) ∷
+    -- 430: OpenSelectionStatement -> . If Open Expression RightParen ClosedStatement; OpenSelectionStatement -> . If Open Expression RightParen OpenStatement ..
+    row (e (Token (te.Is cl.If) ac.Stay) 431 ∷ e (Token (te.Is cl.Switch) ac.Stay) 442 ∷ []) None None false None None false 430 false [] (i 168 0 ∷ i 169 0 ∷ i 170 0 ∷ i 171 0 ∷ i 172 0 ∷ i 173 0 ∷ []) ∷
+    -- 431: OpenSelectionStatement -> If . Open Expression RightParen ClosedStatement; OpenSelectionStatement -> If . Open Expression RightParen OpenStatement ..
+    row (e (Token te.Open ac.Stay) 432 ∷ []) None None false None None false 430 false [] (i 168 1 ∷ i 169 1 ∷ i 170 1 ∷ i 171 1 ∷ []) ∷
+    -- 432: OpenSelectionStatement -> If Open . Expression RightParen ClosedStatement; OpenSelectionStatement -> If Open . Expression RightParen OpenStatement ..
+    row (e (Node nt.Expression) 433 ∷ []) None None false None None false 430 false [] (i 168 2 ∷ i 169 2 ∷ i 170 2 ∷ i 171 2 ∷ []) ∷
+    -- 433: OpenSelectionStatement -> If Open Expression . RightParen ClosedStatement; OpenSelectionStatement -> If Open Expression . RightParen OpenStatement ..
+    row (e (Token (te.Is cl.RightParen) ac.Open) 434 ∷ []) None None false None None false 430 false [] (i 168 3 ∷ i 169 3 ∷ i 170 3 ∷ i 171 3 ∷ []) ∷
+    -- 434: OpenSelectionStatement -> If Open Expression RightParen . ClosedStatement; OpenSelectionStatement -> If Open Expression RightParen . OpenStatement ..
+    row (e (Node nt.Statement) 435 ∷ []) None None false None None false 430 false [] (i 168 4 ∷ i 169 4 ∷ i 170 4 ∷ i 171 4 ∷ []) ∷
+    -- 435: a statement was read
+    row [] None None false None (ways 436 437) false 430 false [] [] ∷
+    -- 436: OpenSelectionStatement -> If Open Expression RightParen OpenStatement .
+    row [] (label ru.SelectionStatement 0) None true None None true 430 false [] (i 169 5 ∷ []) ∷
+    -- 437: OpenSelectionStatement -> If Open Expression RightParen ClosedStatement .; ClosedSelectionStatement -> If Open Expression RightParen ClosedStatement . Else ClosedStatement ..
+    row (e (Token (te.Is cl.Else) ac.Close) 438 ∷ []) (label ru.SelectionStatement 0) (Some (te.Is cl.Else)) true None None true 430 false [] (i 168 5 ∷ i 170 5 ∷ i 171 5 ∷ []) ∷
+    -- 438: ClosedSelectionStatement -> If Open Expression RightParen ClosedStatement Else . ClosedStatement; OpenSelectionStatement -> If Open Expression RightParen ClosedStatement Else . OpenStatement
+    row (e (Node nt.Statement) 439 ∷ []) None None false None None false 430 false [] (i 170 6 ∷ i 171 6 ∷ []) ∷
+    -- 439: a statement was read
+    row [] None None false None (ways 440 441) false 430 false [] [] ∷
+    -- 440: OpenSelectionStatement -> If Open Expression RightParen ClosedStatement Else OpenStatement .
+    row [] (label ru.SelectionStatement 1) None true None None true 430 false [] (i 171 7 ∷ []) ∷
+    -- 441: ClosedSelectionStatement -> If Open Expression RightParen ClosedStatement Else ClosedStatement .
+    row [] (label ru.SelectionStatement 1) None true None None false 430 false [] (i 170 7 ∷ []) ∷
+    -- 442: ClosedSelectionStatement -> Switch . Open Expression RightParen ClosedStatement; OpenSelectionStatement -> Switch . Open Expression RightParen OpenStatement
+    row (e (Token te.Open ac.Stay) 443 ∷ []) None None false None None false 430 false [] (i 172 1 ∷ i 173 1 ∷ []) ∷
+    -- 443: ClosedSelectionStatement -> Switch Open . Expression RightParen ClosedStatement; OpenSelectionStatement -> Switch Open . Expression RightParen OpenStatement
+    row (e (Node nt.Expression) 444 ∷ []) None None false None None false 430 false [] (i 172 2 ∷ i 173 2 ∷ []) ∷
+    -- 444: ClosedSelectionStatement -> Switch Open Expression . RightParen ClosedStatement; OpenSelectionStatement -> Switch Open Expression . RightParen OpenStatement
+    row (e (Token (te.Is cl.RightParen) ac.Stay) 445 ∷ []) None None false None None false 430 false [] (i 172 3 ∷ i 173 3 ∷ []) ∷
+    -- 445: ClosedSelectionStatement -> Switch Open Expression RightParen . ClosedStatement; OpenSelectionStatement -> Switch Open Expression RightParen . OpenStatement
+    row (e (Node nt.Statement) 446 ∷ []) None None false None None false 430 false [] (i 172 4 ∷ i 173 4 ∷ []) ∷
+    -- 446: a statement was read
+    row [] None None false None (ways 447 448) false 430 false [] [] ∷
+    -- 447: OpenSelectionStatement -> Switch Open Expression RightParen OpenStatement .
+    row [] (label ru.SelectionStatement 2) None true None None true 430 false [] (i 173 5 ∷ []) ∷
+    -- 448: ClosedSelectionStatement -> Switch Open Expression RightParen ClosedStatement .
+    row [] (label ru.SelectionStatement 2) None true None None false 430 false [] (i 172 5 ∷ []) ∷
+    -- 449: ClosedIterationStatement -> . Do Statement While Open Expression RightParen Semicolon; ClosedIterationStatement -> . While Open Expression RightParen ClosedStatement ..
+    row (e (Token (te.Is cl.Do) ac.Open) 450 ∷ e (Token (te.Is cl.While) ac.Stay) 457 ∷ e (Token (te.Is cl.For) ac.Stay) 464 ∷ []) None None false None None false 449 false [] (i 174 0 ∷ i 175 0 ∷ i 176 0 ∷ i 177 0 ∷ i 178 0 ∷ i 179 0 ∷ i 180 0 ∷ []) ∷
+    -- 450: ClosedIterationStatement -> Do . Statement While Open Expression RightParen Semicolon
+    row (e (Node nt.Statement) 451 ∷ []) None None false None None false 449 false [] (i 174 1 ∷ []) ∷
+    -- 451: ClosedIterationStatement -> Do Statement . While Open Expression RightParen Semicolon
+    row (e (Token (te.Is cl.While) ac.Close) 452 ∷ []) None None false None None false 449 false [] (i 174 2 ∷ []) ∷
+    -- 452: ClosedIterationStatement -> Do Statement While . Open Expression RightParen Semicolon
+    row (e (Token te.Open ac.Stay) 453 ∷ []) None None false None None false 449 false [] (i 174 3 ∷ []) ∷
+    -- 453: ClosedIterationStatement -> Do Statement While Open . Expression RightParen Semicolon
+    row (e (Node nt.Expression) 454 ∷ []) None None false None None false 449 false [] (i 174 4 ∷ []) ∷
+    -- 454: ClosedIterationStatement -> Do Statement While Open Expression . RightParen Semicolon
+    row (e (Token (te.Is cl.RightParen) ac.Stay) 455 ∷ []) None None false None None false 449 false [] (i 174 5 ∷ []) ∷
+    -- 455: ClosedIterationStatement -> Do Statement While Open Expression RightParen . Semicolon
+    row (e (Token (te.Is cl.Semicolon) ac.Stay) 456 ∷ []) None None false None None false 449 false [] (i 174 6 ∷ []) ∷
+    -- 456: ClosedIterationStatement -> Do Statement While Open Expression RightParen Semicolon .
+    row [] (label ru.IterationStatement 1) None true None None false 449 false [] (i 174 7 ∷ []) ∷
+    -- 457: ClosedIterationStatement -> While . Open Expression RightParen ClosedStatement; OpenIterationStatement -> While . Open Expression RightParen OpenStatement
+    row (e (Token te.Open ac.Stay) 458 ∷ []) None None false None None false 449 false [] (i 175 1 ∷ i 178 1 ∷ []) ∷
+    -- 458: ClosedIterationStatement -> While Open . Expression RightParen ClosedStatement; OpenIterationStatement -> While Open . Expression RightParen OpenStatement
+    row (e (Node nt.Expression) 459 ∷ []) None None false None None false 449 false [] (i 175 2 ∷ i 178 2 ∷ []) ∷
+    -- 459: ClosedIterationStatement -> While Open Expression . RightParen ClosedStatement; OpenIterationStatement -> While Open Expression . RightParen OpenStatement
+    row (e (Token (te.Is cl.RightParen) ac.Stay) 460 ∷ []) None None false None None false 449 false [] (i 175 3 ∷ i 178 3 ∷ []) ∷
+    -- 460: ClosedIterationStatement -> While Open Expression RightParen . ClosedStatement; OpenIterationStatement -> While Open Expression RightParen . OpenStatement
+    row (e (Node nt.Statement) 461 ∷ []) None None false None None false 449 false [] (i 175 4 ∷ i 178 4 ∷ []) ∷
+    -- 461: a statement was read
+    row [] None None false None (ways 462 463) false 449 false [] [] ∷
+    -- 462: OpenIterationStatement -> While Open Expression RightParen OpenStatement .
+    row [] (label ru.IterationStatement 0) None true None None true 449 false [] (i 178 5 ∷ []) ∷
+    -- 463: ClosedIterationStatement -> While Open Expression RightParen ClosedStatement .
+    row [] (label ru.IterationStatement 0) None true None None false 449 false [] (i 175 5 ∷ []) ∷
+    -- 464: ClosedIterationStatement -> For . Open PlainExpression? Semicolon Expression? Semicolon Expression? RightParen ClosedStatement; ClosedIterationStatement -> For . Open Declaration Expression? Semicolon Expression? RightParen ClosedStatement ..
+    row (e (Token te.Open ac.Stay) 465 ∷ []) None None false None None false 449 false [] (i 176 1 ∷ i 177 1 ∷ i 179 1 ∷ i 180 1 ∷ []) ∷
+    -- 465: ClosedIterationStatement -> For Open . PlainExpression? Semicolon Expression? Semicolon Expression? RightParen ClosedStatement; ClosedIterationStatement -> For Open . Declaration Expression? Semicolon Expression? RightParen ClosedStatement ..
+    row (e (Node nt.PlainExpression) 466 ∷ e (Token (te.Is cl.Semicolon) ac.Stay) 467 ∷ e (Node nt.Declaration) 475 ∷ []) None None false None None false 449 false [] (i 176 2 ∷ i 177 2 ∷ i 179 2 ∷ i 180 2 ∷ []) ∷
+    -- 466: ClosedIterationStatement -> For Open PlainExpression? . Semicolon Expression? Semicolon Expression? RightParen ClosedStatement; OpenIterationStatement -> For Open PlainExpression? . Semicolon Expression? Semicolon Expression? RightParen OpenStatement
+    row (e (Token (te.Is cl.Semicolon) ac.Stay) 467 ∷ []) None None false None None false 449 false [] (i 176 3 ∷ i 179 3 ∷ []) ∷
+    -- 467: ClosedIterationStatement -> For Open PlainExpression? Semicolon . Expression? Semicolon Expression? RightParen ClosedStatement; OpenIterationStatement -> For Open PlainExpression? Semicolon . Expression? Semicolon Expression? RightParen OpenStatement
+    row (e (Node nt.Expression) 468 ∷ e (Token (te.Is cl.Semicolon) ac.Stay) 469 ∷ []) None None false None None false 449 false [] (i 176 4 ∷ i 179 4 ∷ []) ∷
+    -- 468: ClosedIterationStatement -> For Open PlainExpression? Semicolon Expression? . Semicolon Expression? RightParen ClosedStatement; OpenIterationStatement -> For Open PlainExpression? Semicolon Expression? . Semicolon Expression? RightParen OpenStatement
+    row (e (Token (te.Is cl.Semicolon) ac.Stay) 469 ∷ []) None None false None None false 449 false [] (i 176 5 ∷ i 179 5 ∷ []) ∷
+    -- 469: ClosedIterationStatement -> For Open PlainExpression? Semicolon Expression? Semicolon . Expression? RightParen ClosedStatement; OpenIterationStatement -> For Open PlainExpression? Semicolon Expression? Semicolon . Expression? RightParen OpenStatement
+    row (e (Node nt.Expression) 470 ∷ e (Token (te.Is cl.RightParen) ac.Stay) 471 ∷ []) None None false None None false 449 false [] (i 176 6 ∷ i 179 6 ∷ []) ∷
+    -- 470: ClosedIterationStatement -> For Open PlainExpression? Semicolon Expression? Semicolon Expression? . RightParen ClosedStatement; OpenIterationStatement -> For Open PlainExpression? Semicolon Expression? Semicolon Expression? . RightParen OpenStatement
+    row (e (Token (te.Is cl.RightParen) ac.Stay) 471 ∷ []) None None false None None false 449 false [] (i 176 7 ∷ i 179 7 ∷ []) ∷
+    -- 471: ClosedIterationStatement -> For Open PlainExpression? Semicolon Expression? Semicolon Expression? RightParen . ClosedStatement; OpenIterationStatement -> For Open PlainExpression? Semicolon Expression? Semicolon Expression? RightParen . OpenStatement
+    row (e (Node nt.Statement) 472 ∷ []) None None false None None false 449 false [] (i 176 8 ∷ i 179 8 ∷ []) ∷
+    -- 472: a statement was read
+    row [] None None false None (ways 473 474) false 449 false [] [] ∷
+    -- 473: OpenIterationStatement -> For Open PlainExpression? Semicolon Expression? Semicolon Expression? RightParen OpenStatement .
+    row [] (label ru.IterationStatement 2) None true None None true 449 false [] (i 179 9 ∷ []) ∷
+    -- 474: ClosedIterationStatement -> For Open PlainExpression? Semicolon Expression? Semicolon Expression? RightParen ClosedStatement .
+    row [] (label ru.IterationStatement 2) None true None None false 449 false [] (i 176 9 ∷ []) ∷
+    -- 475: ClosedIterationStatement -> For Open Declaration . Expression? Semicolon Expression? RightParen ClosedStatement; OpenIterationStatement -> For Open Declaration . Expression? Semicolon Expression? RightParen OpenStatement
+    row (e (Node nt.Expression) 476 ∷ e (Token (te.Is cl.Semicolon) ac.Stay) 477 ∷ []) None None false None None false 449 false [] (i 177 3 ∷ i 180 3 ∷ []) ∷
+    -- 476: ClosedIterationStatement -> For Open Declaration Expression? . Semicolon Expression? RightParen ClosedStatement; OpenIterationStatement -> For Open Declaration Expression? . Semicolon Expression? RightParen OpenStatement
+    row (e (Token (te.Is cl.Semicolon) ac.Stay) 477 ∷ []) None None false None None false 449 false [] (i 177 4 ∷ i 180 4 ∷ []) ∷
+    -- 477: ClosedIterationStatement -> For Open Declaration Expression? Semicolon . Expression? RightParen ClosedStatement; OpenIterationStatement -> For Open Declaration Expression? Semicolon . Expression? RightParen OpenStatement
+    row (e (Node nt.Expression) 478 ∷ e (Token (te.Is cl.RightParen) ac.Stay) 479 ∷ []) None None false None None false 449 false [] (i 177 5 ∷ i 180 5 ∷ []) ∷
+    -- 478: ClosedIterationStatement -> For Open Declaration Expression? Semicolon Expression? . RightParen ClosedStatement; OpenIterationStatement -> For Open Declaration Expression? Semicolon Expression? . RightParen OpenStatement
+    row (e (Token (te.Is cl.RightParen) ac.Stay) 479 ∷ []) None None false None None false 449 false [] (i 177 6 ∷ i 180 6 ∷ []) ∷
+    -- 479: ClosedIterationStatement -> For Open Declaration Expression? Semicolon Expression? RightParen . ClosedStatement; OpenIterationStatement -> For Open Declaration Expression? Semicolon Expression? RightParen . OpenStatement
+    row (e (Node nt.Statement) 480 ∷ []) None None false None None false 449 false [] (i 177 7 ∷ i 180 7 ∷ []) ∷
+    -- 480: a statement was read
+    row [] None None false None (ways 481 482) false 449 false [] [] ∷
+    -- 481: OpenIterationStatement -> For Open Declaration Expression? Semicolon Expression? RightParen OpenStatement .
+    row [] (label ru.IterationStatement 3) None true None None true 449 false [] (i 180 8 ∷ []) ∷
+    -- 482: ClosedIterationStatement -> For Open Declaration Expression? Semicolon Expression? RightParen ClosedStatement .
+    row [] (label ru.IterationStatement 3) None true None None false 449 false [] (i 177 8 ∷ []) ∷
+    -- 483: JumpStatement -> . Goto Name Semicolon; JumpStatement -> . Continue Semicolon ..
+    row (e (Token (te.Is cl.Goto) ac.Stay) 484 ∷ e (Token (te.Is cl.Continue) ac.Stay) 487 ∷ e (Token (te.Is cl.Break) ac.Stay) 489 ∷ e (Token (te.Is cl.Return) ac.Stay) 491 ∷ []) None None false None None false 483 true [] (i 181 0 ∷ i 182 0 ∷ i 183 0 ∷ i 184 0 ∷ []) ∷
+    -- 484: JumpStatement -> Goto . Name Semicolon
+    row (e (Token te.Name ac.Stay) 485 ∷ []) None None false None None false 483 true [] (i 181 1 ∷ []) ∷
+    -- 485: JumpStatement -> Goto Name . Semicolon
+    row (e (Token (te.Is cl.Semicolon) ac.Stay) 486 ∷ []) None None false None None false 483 true [] (i 181 2 ∷ []) ∷
+    -- 486: JumpStatement -> Goto Name Semicolon .
+    row [] (label ru.JumpStatement 0) None false None None false 483 true [] (i 181 3 ∷ []) ∷
+    -- 487: JumpStatement -> Continue . Semicolon
+    row (e (Token (te.Is cl.Semicolon) ac.Stay) 488 ∷ []) None None false None None false 483 true [] (i 182 1 ∷ []) ∷
+    -- 488: JumpStatement -> Continue Semicolon .
+    row [] (label ru.JumpStatement 1) None false None None false 483 true [] (i 182 2 ∷ []) ∷
+    -- 489: JumpStatement -> Break . Semicolon
+    row (e (Token (te.Is cl.Semicolon) ac.Stay) 490 ∷ []) None None false None None false 483 true [] (i 183 1 ∷ []) ∷
+    -- 490: JumpStatement -> Break Semicolon .
+    row [] (label ru.JumpStatement 2) None false None None false 483 true [] (i 183 2 ∷ []) ∷
+    -- 491: JumpStatement -> Return . Expression? Semicolon
+    row (e (Node nt.Expression) 492 ∷ e (Token (te.Is cl.Semicolon) ac.Stay) 493 ∷ []) None None false None None false 483 true [] (i 184 1 ∷ []) ∷
+    -- 492: JumpStatement -> Return Expression? . Semicolon
+    row (e (Token (te.Is cl.Semicolon) ac.Stay) 493 ∷ []) None None false None None false 483 true [] (i 184 2 ∷ []) ∷
+    -- 493: JumpStatement -> Return Expression? Semicolon .
+    row [] (label ru.JumpStatement 3) None false None None false 483 true [] (i 184 3 ∷ []) ∷
+    -- 494: BlockExpressionStatement -> . PlainExpression? Semicolon
+    row (e (Node nt.PlainExpression) 495 ∷ e (Token (te.Is cl.Semicolon) ac.Stay) 496 ∷ []) None None false None None false 494 true [] (i 185 0 ∷ []) ∷
+    -- 495: BlockExpressionStatement -> PlainExpression? . Semicolon
+    row (e (Token (te.Is cl.Semicolon) ac.Stay) 496 ∷ []) None None false None None false 494 true [] (i 185 1 ∷ []) ∷
+    -- 496: BlockExpressionStatement -> PlainExpression? Semicolon .
+    row [] (label ru.ExpressionStatement 0) None false None None false 494 true [] (i 185 2 ∷ []) ∷
+    -- 497: BlockDeclaration -> . BlockSpecifiers InitDeclaratorList? Semicolon
+    row (e (Node nt.BlockSpecifiers) 498 ∷ []) None None false None None false 497 true [] (i 186 0 ∷ []) ∷
+    -- 498: BlockDeclaration -> BlockSpecifiers . InitDeclaratorList? Semicolon
+    row (e (Node nt.InitDeclaratorList) 499 ∷ e (Token (te.Is cl.Semicolon) ac.Finish) 500 ∷ []) None None false None None false 497 true [] (i 186 1 ∷ []) ∷
+    -- 499: BlockDeclaration -> BlockSpecifiers InitDeclaratorList? . Semicolon
+    row (e (Token (te.Is cl.Semicolon) ac.Finish) 500 ∷ []) None None false None None false 497 true [] (i 186 2 ∷ []) ∷
+    -- 500: BlockDeclaration -> BlockSpecifiers InitDeclaratorList? Semicolon .
+    row [] (label ru.Declaration 0) None false None None false 497 true [] (i 186 3 ∷ []) ∷
+    -- 501: FunctionDefinition -> . DeclarationSpecifiers Declarator FunctionBody
+    row (e (Node nt.DeclarationSpecifiers) 502 ∷ []) None None false None None false 501 false [] (i 187 0 ∷ []) ∷
+    -- 502: FunctionDefinition -> DeclarationSpecifiers . Declarator FunctionBody
+    row (e (Node nt.Declarator) 503 ∷ []) None None false None None false 501 false [] (i 187 1 ∷ []) ∷
+    -- 503: FunctionDefinition -> DeclarationSpecifiers Declarator . FunctionBody
+    row (e (Node nt.FunctionBody) 504 ∷ []) None None false None None false 501 false [] (i 187 2 ∷ []) ∷
+    -- 504: FunctionDefinition -> DeclarationSpecifiers Declarator FunctionBody .
+    row [] (label ru.FunctionDefinition 0) None false None None false 501 false [] (i 187 3 ∷ []) ∷
+    -- 505: FunctionBody -> . LeftBrace BlockItemList? RightBrace
+    row (e (Token (te.Is cl.LeftBrace) ac.Begin) 506 ∷ []) None None false None None false 505 false [] (i 188 0 ∷ []) ∷
+    -- 506: FunctionBody -> LeftBrace . BlockItemList? RightBrace
+    row (e (Node nt.BlockItemList) 507 ∷ e (Token (te.Is cl.RightBrace) ac.Close) 508 ∷ []) None None false None None false 505 false [] (i 188 1 ∷ []) ∷
+    -- 507: FunctionBody -> LeftBrace BlockItemList? . RightBrace
+    row (e (Token (te.Is cl.RightBrace) ac.Close) 508 ∷ []) None None false None None false 505 false [] (i 188 2 ∷ []) ∷
+    -- 508: FunctionBody -> LeftBrace BlockItemList? RightBrace .
+    row [] (label ru.CompoundStatement 0) None false None None false 505 false [] (i 188 3 ∷ []) ∷
     []
 
 unfoldable pub goals : List Goal
@@ -1194,25 +1230,25 @@ goals =
     -- StaticAssertDeclaration
     record { kinds = (403 ∷ []); openers = (396 ∷ []); suffixes = []; firsts = (cl.StaticAssert ∷ []); goes = []; shuns = None; flat = true } ∷
     -- Statement
-    record { kinds = (407 ∷ 411 ∷ 414 ∷ 418 ∷ 423 ∷ 429 ∷ 431 ∷ 436 ∷ 442 ∷ 449 ∷ 458 ∷ 464 ∷ 468 ∷ 470 ∷ 472 ∷ 475 ∷ []); openers = (404 ∷ 415 ∷ 421 ∷ 424 ∷ 437 ∷ 465 ∷ []); suffixes = []; firsts = (cl.Ident ∷ cl.IdentColon ∷ cl.TypedefName ∷ cl.TypedefColon ∷ cl.Constant ∷ cl.String ∷ cl.LeftParen ∷ cl.TypeParen ∷ cl.LiteralParen ∷ cl.LeftBrace ∷ cl.PlusPlus ∷ cl.MinusMinus ∷ cl.Ampersand ∷ cl.Star ∷ cl.Plus ∷ cl.Minus ∷ cl.Tilde ∷ cl.Bang ∷ cl.Semicolon ∷ cl.Sizeof ∷ cl.Alignof ∷ cl.Generic ∷ cl.Default ∷ cl.Case ∷ cl.If ∷ cl.Switch ∷ cl.While ∷ cl.Do ∷ cl.For ∷ cl.Goto ∷ cl.Continue ∷ cl.Break ∷ cl.Return ∷ []); goes = []; shuns = None; flat = false } ∷
+    record { kinds = (409 ∷ 415 ∷ 420 ∷ 424 ∷ 429 ∷ 441 ∷ 448 ∷ 456 ∷ 463 ∷ 474 ∷ 482 ∷ 486 ∷ 488 ∷ 490 ∷ 493 ∷ 408 ∷ 414 ∷ 419 ∷ 436 ∷ 437 ∷ 440 ∷ 447 ∷ 462 ∷ 473 ∷ 481 ∷ []); openers = (404 ∷ 421 ∷ 427 ∷ 430 ∷ 449 ∷ 483 ∷ []); suffixes = []; firsts = (cl.Ident ∷ cl.IdentColon ∷ cl.TypedefName ∷ cl.TypedefColon ∷ cl.Constant ∷ cl.String ∷ cl.LeftParen ∷ cl.TypeParen ∷ cl.LiteralParen ∷ cl.LeftBrace ∷ cl.PlusPlus ∷ cl.MinusMinus ∷ cl.Ampersand ∷ cl.Star ∷ cl.Plus ∷ cl.Minus ∷ cl.Tilde ∷ cl.Bang ∷ cl.Semicolon ∷ cl.Sizeof ∷ cl.Alignof ∷ cl.Generic ∷ cl.Default ∷ cl.Case ∷ cl.If ∷ cl.Switch ∷ cl.While ∷ cl.Do ∷ cl.For ∷ cl.Goto ∷ cl.Continue ∷ cl.Break ∷ cl.Return ∷ []); goes = []; shuns = None; flat = false } ∷
     -- LabeledStatement
-    record { kinds = (407 ∷ 411 ∷ 414 ∷ []); openers = (404 ∷ []); suffixes = []; firsts = (cl.IdentColon ∷ cl.TypedefColon ∷ cl.Default ∷ cl.Case ∷ []); goes = []; shuns = None; flat = false } ∷
+    record { kinds = (409 ∷ 415 ∷ 420 ∷ 408 ∷ 414 ∷ 419 ∷ []); openers = (404 ∷ []); suffixes = []; firsts = (cl.IdentColon ∷ cl.TypedefColon ∷ cl.Default ∷ cl.Case ∷ []); goes = []; shuns = None; flat = false } ∷
     -- CompoundStatement
-    record { kinds = (418 ∷ []); openers = (415 ∷ []); suffixes = []; firsts = (cl.LeftBrace ∷ []); goes = []; shuns = None; flat = false } ∷
+    record { kinds = (424 ∷ []); openers = (421 ∷ []); suffixes = []; firsts = (cl.LeftBrace ∷ []); goes = []; shuns = None; flat = false } ∷
     -- BlockItemList
-    record { kinds = (420 ∷ []); openers = (419 ∷ []); suffixes = []; firsts = (cl.Ident ∷ cl.IdentColon ∷ cl.TypedefName ∷ cl.TypedefColon ∷ cl.Constant ∷ cl.String ∷ cl.LeftParen ∷ cl.TypeParen ∷ cl.LiteralParen ∷ cl.RightParen ∷ cl.LeftBracket ∷ cl.RightBracket ∷ cl.LeftBrace ∷ cl.Dot ∷ cl.Arrow ∷ cl.PlusPlus ∷ cl.MinusMinus ∷ cl.Ampersand ∷ cl.Star ∷ cl.StarBracket ∷ cl.Plus ∷ cl.Minus ∷ cl.Tilde ∷ cl.Bang ∷ cl.Slash ∷ cl.Percent ∷ cl.ShiftLeft ∷ cl.ShiftRight ∷ cl.Less ∷ cl.Greater ∷ cl.LessEqual ∷ cl.GreaterEqual ∷ cl.EqualEqual ∷ cl.BangEqual ∷ cl.Caret ∷ cl.Bar ∷ cl.AndAnd ∷ cl.OrOr ∷ cl.Question ∷ cl.Colon ∷ cl.Semicolon ∷ cl.Ellipsis ∷ cl.Comma ∷ cl.LastComma ∷ cl.DesignationComma ∷ cl.Equal ∷ cl.StarEqual ∷ cl.SlashEqual ∷ cl.PercentEqual ∷ cl.PlusEqual ∷ cl.MinusEqual ∷ cl.ShiftLeftEqual ∷ cl.ShiftRightEqual ∷ cl.AmpersandEqual ∷ cl.CaretEqual ∷ cl.BarEqual ∷ cl.Sizeof ∷ cl.Alignof ∷ cl.Generic ∷ cl.Default ∷ cl.Case ∷ cl.If ∷ cl.Else ∷ cl.Switch ∷ cl.While ∷ cl.Do ∷ cl.For ∷ cl.Goto ∷ cl.Continue ∷ cl.Break ∷ cl.Return ∷ cl.StaticAssert ∷ cl.Typedef ∷ cl.Extern ∷ cl.Static ∷ cl.ThreadLocal ∷ cl.Auto ∷ cl.Register ∷ cl.Void ∷ cl.Char ∷ cl.Short ∷ cl.Int ∷ cl.Long ∷ cl.Float ∷ cl.Double ∷ cl.Signed ∷ cl.Unsigned ∷ cl.Bool ∷ cl.Struct ∷ cl.Union ∷ cl.Enum ∷ cl.Const ∷ cl.Restrict ∷ cl.Volatile ∷ cl.Atomic ∷ cl.AtomicParen ∷ cl.Inline ∷ cl.Noreturn ∷ cl.Alignas ∷ cl.Other ∷ []); goes = (cl.Ident ∷ cl.IdentColon ∷ cl.TypedefName ∷ cl.TypedefColon ∷ cl.Constant ∷ cl.String ∷ cl.LeftParen ∷ cl.TypeParen ∷ cl.LiteralParen ∷ cl.RightParen ∷ cl.LeftBracket ∷ cl.RightBracket ∷ cl.LeftBrace ∷ cl.Dot ∷ cl.Arrow ∷ cl.PlusPlus ∷ cl.MinusMinus ∷ cl.Ampersand ∷ cl.Star ∷ cl.StarBracket ∷ cl.Plus ∷ cl.Minus ∷ cl.Tilde ∷ cl.Bang ∷ cl.Slash ∷ cl.Percent ∷ cl.ShiftLeft ∷ cl.ShiftRight ∷ cl.Less ∷ cl.Greater ∷ cl.LessEqual ∷ cl.GreaterEqual ∷ cl.EqualEqual ∷ cl.BangEqual ∷ cl.Caret ∷ cl.Bar ∷ cl.AndAnd ∷ cl.OrOr ∷ cl.Question ∷ cl.Colon ∷ cl.Semicolon ∷ cl.Ellipsis ∷ cl.Comma ∷ cl.LastComma ∷ cl.DesignationComma ∷ cl.Equal ∷ cl.StarEqual ∷ cl.SlashEqual ∷ cl.PercentEqual ∷ cl.PlusEqual ∷ cl.MinusEqual ∷ cl.ShiftLeftEqual ∷ cl.ShiftRightEqual ∷ cl.AmpersandEqual ∷ cl.CaretEqual ∷ cl.BarEqual ∷ cl.Sizeof ∷ cl.Alignof ∷ cl.Generic ∷ cl.Default ∷ cl.Case ∷ cl.If ∷ cl.Else ∷ cl.Switch ∷ cl.While ∷ cl.Do ∷ cl.For ∷ cl.Goto ∷ cl.Continue ∷ cl.Break ∷ cl.Return ∷ cl.StaticAssert ∷ cl.Typedef ∷ cl.Extern ∷ cl.Static ∷ cl.ThreadLocal ∷ cl.Auto ∷ cl.Register ∷ cl.Void ∷ cl.Char ∷ cl.Short ∷ cl.Int ∷ cl.Long ∷ cl.Float ∷ cl.Double ∷ cl.Signed ∷ cl.Unsigned ∷ cl.Bool ∷ cl.Struct ∷ cl.Union ∷ cl.Enum ∷ cl.Const ∷ cl.Restrict ∷ cl.Volatile ∷ cl.Atomic ∷ cl.AtomicParen ∷ cl.Inline ∷ cl.Noreturn ∷ cl.Alignas ∷ cl.Other ∷ []); shuns = None; flat = false } ∷
+    record { kinds = (426 ∷ []); openers = (425 ∷ []); suffixes = []; firsts = (cl.Ident ∷ cl.IdentColon ∷ cl.TypedefName ∷ cl.TypedefColon ∷ cl.Constant ∷ cl.String ∷ cl.LeftParen ∷ cl.TypeParen ∷ cl.LiteralParen ∷ cl.RightParen ∷ cl.LeftBracket ∷ cl.RightBracket ∷ cl.LeftBrace ∷ cl.Dot ∷ cl.Arrow ∷ cl.PlusPlus ∷ cl.MinusMinus ∷ cl.Ampersand ∷ cl.Star ∷ cl.StarBracket ∷ cl.Plus ∷ cl.Minus ∷ cl.Tilde ∷ cl.Bang ∷ cl.Slash ∷ cl.Percent ∷ cl.ShiftLeft ∷ cl.ShiftRight ∷ cl.Less ∷ cl.Greater ∷ cl.LessEqual ∷ cl.GreaterEqual ∷ cl.EqualEqual ∷ cl.BangEqual ∷ cl.Caret ∷ cl.Bar ∷ cl.AndAnd ∷ cl.OrOr ∷ cl.Question ∷ cl.Colon ∷ cl.Semicolon ∷ cl.Ellipsis ∷ cl.Comma ∷ cl.LastComma ∷ cl.DesignationComma ∷ cl.Equal ∷ cl.StarEqual ∷ cl.SlashEqual ∷ cl.PercentEqual ∷ cl.PlusEqual ∷ cl.MinusEqual ∷ cl.ShiftLeftEqual ∷ cl.ShiftRightEqual ∷ cl.AmpersandEqual ∷ cl.CaretEqual ∷ cl.BarEqual ∷ cl.Sizeof ∷ cl.Alignof ∷ cl.Generic ∷ cl.Default ∷ cl.Case ∷ cl.If ∷ cl.Else ∷ cl.Switch ∷ cl.While ∷ cl.Do ∷ cl.For ∷ cl.Goto ∷ cl.Continue ∷ cl.Break ∷ cl.Return ∷ cl.StaticAssert ∷ cl.Typedef ∷ cl.Extern ∷ cl.Static ∷ cl.ThreadLocal ∷ cl.Auto ∷ cl.Register ∷ cl.Void ∷ cl.Char ∷ cl.Short ∷ cl.Int ∷ cl.Long ∷ cl.Float ∷ cl.Double ∷ cl.Signed ∷ cl.Unsigned ∷ cl.Bool ∷ cl.Struct ∷ cl.Union ∷ cl.Enum ∷ cl.Const ∷ cl.Restrict ∷ cl.Volatile ∷ cl.Atomic ∷ cl.AtomicParen ∷ cl.Inline ∷ cl.Noreturn ∷ cl.Alignas ∷ cl.Other ∷ []); goes = (cl.Ident ∷ cl.IdentColon ∷ cl.TypedefName ∷ cl.TypedefColon ∷ cl.Constant ∷ cl.String ∷ cl.LeftParen ∷ cl.TypeParen ∷ cl.LiteralParen ∷ cl.RightParen ∷ cl.LeftBracket ∷ cl.RightBracket ∷ cl.LeftBrace ∷ cl.Dot ∷ cl.Arrow ∷ cl.PlusPlus ∷ cl.MinusMinus ∷ cl.Ampersand ∷ cl.Star ∷ cl.StarBracket ∷ cl.Plus ∷ cl.Minus ∷ cl.Tilde ∷ cl.Bang ∷ cl.Slash ∷ cl.Percent ∷ cl.ShiftLeft ∷ cl.ShiftRight ∷ cl.Less ∷ cl.Greater ∷ cl.LessEqual ∷ cl.GreaterEqual ∷ cl.EqualEqual ∷ cl.BangEqual ∷ cl.Caret ∷ cl.Bar ∷ cl.AndAnd ∷ cl.OrOr ∷ cl.Question ∷ cl.Colon ∷ cl.Semicolon ∷ cl.Ellipsis ∷ cl.Comma ∷ cl.LastComma ∷ cl.DesignationComma ∷ cl.Equal ∷ cl.StarEqual ∷ cl.SlashEqual ∷ cl.PercentEqual ∷ cl.PlusEqual ∷ cl.MinusEqual ∷ cl.ShiftLeftEqual ∷ cl.ShiftRightEqual ∷ cl.AmpersandEqual ∷ cl.CaretEqual ∷ cl.BarEqual ∷ cl.Sizeof ∷ cl.Alignof ∷ cl.Generic ∷ cl.Default ∷ cl.Case ∷ cl.If ∷ cl.Else ∷ cl.Switch ∷ cl.While ∷ cl.Do ∷ cl.For ∷ cl.Goto ∷ cl.Continue ∷ cl.Break ∷ cl.Return ∷ cl.StaticAssert ∷ cl.Typedef ∷ cl.Extern ∷ cl.Static ∷ cl.ThreadLocal ∷ cl.Auto ∷ cl.Register ∷ cl.Void ∷ cl.Char ∷ cl.Short ∷ cl.Int ∷ cl.Long ∷ cl.Float ∷ cl.Double ∷ cl.Signed ∷ cl.Unsigned ∷ cl.Bool ∷ cl.Struct ∷ cl.Union ∷ cl.Enum ∷ cl.Const ∷ cl.Restrict ∷ cl.Volatile ∷ cl.Atomic ∷ cl.AtomicParen ∷ cl.Inline ∷ cl.Noreturn ∷ cl.Alignas ∷ cl.Other ∷ []); shuns = None; flat = false } ∷
     -- BlockItem
-    record { kinds = (482 ∷ 403 ∷ 407 ∷ 411 ∷ 414 ∷ 418 ∷ 478 ∷ 429 ∷ 431 ∷ 436 ∷ 442 ∷ 449 ∷ 458 ∷ 464 ∷ 468 ∷ 470 ∷ 472 ∷ 475 ∷ []); openers = (479 ∷ 396 ∷ 404 ∷ 415 ∷ 476 ∷ 424 ∷ 437 ∷ 465 ∷ []); suffixes = []; firsts = (cl.Ident ∷ cl.IdentColon ∷ cl.TypedefName ∷ cl.TypedefColon ∷ cl.Constant ∷ cl.String ∷ cl.LeftParen ∷ cl.TypeParen ∷ cl.LiteralParen ∷ cl.LeftBrace ∷ cl.PlusPlus ∷ cl.MinusMinus ∷ cl.Ampersand ∷ cl.Star ∷ cl.Plus ∷ cl.Minus ∷ cl.Tilde ∷ cl.Bang ∷ cl.Semicolon ∷ cl.Sizeof ∷ cl.Alignof ∷ cl.Generic ∷ cl.Default ∷ cl.Case ∷ cl.If ∷ cl.Switch ∷ cl.While ∷ cl.Do ∷ cl.For ∷ cl.Goto ∷ cl.Continue ∷ cl.Break ∷ cl.Return ∷ cl.StaticAssert ∷ cl.Typedef ∷ cl.Extern ∷ cl.Static ∷ cl.ThreadLocal ∷ cl.Auto ∷ cl.Register ∷ cl.Void ∷ cl.Char ∷ cl.Short ∷ cl.Int ∷ cl.Long ∷ cl.Float ∷ cl.Double ∷ cl.Signed ∷ cl.Unsigned ∷ cl.Bool ∷ cl.Struct ∷ cl.Union ∷ cl.Enum ∷ cl.Const ∷ cl.Restrict ∷ cl.Volatile ∷ cl.Atomic ∷ cl.AtomicParen ∷ cl.Inline ∷ cl.Noreturn ∷ cl.Alignas ∷ []); goes = []; shuns = None; flat = false } ∷
+    record { kinds = (500 ∷ 403 ∷ 409 ∷ 415 ∷ 420 ∷ 408 ∷ 414 ∷ 419 ∷ 424 ∷ 496 ∷ 441 ∷ 448 ∷ 436 ∷ 437 ∷ 440 ∷ 447 ∷ 456 ∷ 463 ∷ 474 ∷ 482 ∷ 462 ∷ 473 ∷ 481 ∷ 486 ∷ 488 ∷ 490 ∷ 493 ∷ []); openers = (497 ∷ 396 ∷ 404 ∷ 421 ∷ 494 ∷ 430 ∷ 449 ∷ 483 ∷ []); suffixes = []; firsts = (cl.Ident ∷ cl.IdentColon ∷ cl.TypedefName ∷ cl.TypedefColon ∷ cl.Constant ∷ cl.String ∷ cl.LeftParen ∷ cl.TypeParen ∷ cl.LiteralParen ∷ cl.LeftBrace ∷ cl.PlusPlus ∷ cl.MinusMinus ∷ cl.Ampersand ∷ cl.Star ∷ cl.Plus ∷ cl.Minus ∷ cl.Tilde ∷ cl.Bang ∷ cl.Semicolon ∷ cl.Sizeof ∷ cl.Alignof ∷ cl.Generic ∷ cl.Default ∷ cl.Case ∷ cl.If ∷ cl.Switch ∷ cl.While ∷ cl.Do ∷ cl.For ∷ cl.Goto ∷ cl.Continue ∷ cl.Break ∷ cl.Return ∷ cl.StaticAssert ∷ cl.Typedef ∷ cl.Extern ∷ cl.Static ∷ cl.ThreadLocal ∷ cl.Auto ∷ cl.Register ∷ cl.Void ∷ cl.Char ∷ cl.Short ∷ cl.Int ∷ cl.Long ∷ cl.Float ∷ cl.Double ∷ cl.Signed ∷ cl.Unsigned ∷ cl.Bool ∷ cl.Struct ∷ cl.Union ∷ cl.Enum ∷ cl.Const ∷ cl.Restrict ∷ cl.Volatile ∷ cl.Atomic ∷ cl.AtomicParen ∷ cl.Inline ∷ cl.Noreturn ∷ cl.Alignas ∷ []); goes = []; shuns = None; flat = false } ∷
     -- ExpressionStatement
-    record { kinds = (423 ∷ []); openers = (421 ∷ []); suffixes = []; firsts = (cl.Ident ∷ cl.TypedefName ∷ cl.Constant ∷ cl.String ∷ cl.LeftParen ∷ cl.TypeParen ∷ cl.LiteralParen ∷ cl.PlusPlus ∷ cl.MinusMinus ∷ cl.Ampersand ∷ cl.Star ∷ cl.Plus ∷ cl.Minus ∷ cl.Tilde ∷ cl.Bang ∷ cl.Semicolon ∷ cl.Sizeof ∷ cl.Alignof ∷ cl.Generic ∷ []); goes = []; shuns = None; flat = true } ∷
+    record { kinds = (429 ∷ []); openers = (427 ∷ []); suffixes = []; firsts = (cl.Ident ∷ cl.TypedefName ∷ cl.Constant ∷ cl.String ∷ cl.LeftParen ∷ cl.TypeParen ∷ cl.LiteralParen ∷ cl.PlusPlus ∷ cl.MinusMinus ∷ cl.Ampersand ∷ cl.Star ∷ cl.Plus ∷ cl.Minus ∷ cl.Tilde ∷ cl.Bang ∷ cl.Semicolon ∷ cl.Sizeof ∷ cl.Alignof ∷ cl.Generic ∷ []); goes = []; shuns = None; flat = true } ∷
     -- SelectionStatement
-    record { kinds = (429 ∷ 431 ∷ 436 ∷ []); openers = (424 ∷ []); suffixes = []; firsts = (cl.If ∷ cl.Switch ∷ []); goes = []; shuns = None; flat = false } ∷
+    record { kinds = (441 ∷ 448 ∷ 436 ∷ 437 ∷ 440 ∷ 447 ∷ []); openers = (430 ∷ []); suffixes = []; firsts = (cl.If ∷ cl.Switch ∷ []); goes = []; shuns = None; flat = false } ∷
     -- IterationStatement
-    record { kinds = (442 ∷ 449 ∷ 458 ∷ 464 ∷ []); openers = (437 ∷ []); suffixes = []; firsts = (cl.While ∷ cl.Do ∷ cl.For ∷ []); goes = []; shuns = None; flat = false } ∷
+    record { kinds = (456 ∷ 463 ∷ 474 ∷ 482 ∷ 462 ∷ 473 ∷ 481 ∷ []); openers = (449 ∷ []); suffixes = []; firsts = (cl.While ∷ cl.Do ∷ cl.For ∷ []); goes = []; shuns = None; flat = false } ∷
     -- JumpStatement
-    record { kinds = (468 ∷ 470 ∷ 472 ∷ 475 ∷ []); openers = (465 ∷ []); suffixes = []; firsts = (cl.Goto ∷ cl.Continue ∷ cl.Break ∷ cl.Return ∷ []); goes = []; shuns = None; flat = true } ∷
+    record { kinds = (486 ∷ 488 ∷ 490 ∷ 493 ∷ []); openers = (483 ∷ []); suffixes = []; firsts = (cl.Goto ∷ cl.Continue ∷ cl.Break ∷ cl.Return ∷ []); goes = []; shuns = None; flat = true } ∷
     -- FunctionDefinition
-    record { kinds = (486 ∷ []); openers = (483 ∷ []); suffixes = []; firsts = (cl.TypedefName ∷ cl.TypedefColon ∷ cl.Typedef ∷ cl.Extern ∷ cl.Static ∷ cl.ThreadLocal ∷ cl.Auto ∷ cl.Register ∷ cl.Void ∷ cl.Char ∷ cl.Short ∷ cl.Int ∷ cl.Long ∷ cl.Float ∷ cl.Double ∷ cl.Signed ∷ cl.Unsigned ∷ cl.Bool ∷ cl.Struct ∷ cl.Union ∷ cl.Enum ∷ cl.Const ∷ cl.Restrict ∷ cl.Volatile ∷ cl.Atomic ∷ cl.AtomicParen ∷ cl.Inline ∷ cl.Noreturn ∷ cl.Alignas ∷ []); goes = []; shuns = None; flat = false } ∷
+    record { kinds = (504 ∷ []); openers = (501 ∷ []); suffixes = []; firsts = (cl.TypedefName ∷ cl.TypedefColon ∷ cl.Typedef ∷ cl.Extern ∷ cl.Static ∷ cl.ThreadLocal ∷ cl.Auto ∷ cl.Register ∷ cl.Void ∷ cl.Char ∷ cl.Short ∷ cl.Int ∷ cl.Long ∷ cl.Float ∷ cl.Double ∷ cl.Signed ∷ cl.Unsigned ∷ cl.Bool ∷ cl.Struct ∷ cl.Union ∷ cl.Enum ∷ cl.Const ∷ cl.Restrict ∷ cl.Volatile ∷ cl.Atomic ∷ cl.AtomicParen ∷ cl.Inline ∷ cl.Noreturn ∷ cl.Alignas ∷ []); goes = []; shuns = None; flat = false } ∷
     -- OtherSpecifier
     record { kinds = (173 ∷ 174 ∷ 175 ∷ 176 ∷ 177 ∷ 178 ∷ 237 ∷ 238 ∷ 239 ∷ 240 ∷ 242 ∷ 243 ∷ 248 ∷ 251 ∷ []); openers = (172 ∷ 236 ∷ 241 ∷ 244 ∷ []); suffixes = []; firsts = (cl.Typedef ∷ cl.Extern ∷ cl.Static ∷ cl.ThreadLocal ∷ cl.Auto ∷ cl.Register ∷ cl.Const ∷ cl.Restrict ∷ cl.Volatile ∷ cl.Atomic ∷ cl.Inline ∷ cl.Noreturn ∷ cl.Alignas ∷ []); goes = []; shuns = None; flat = true } ∷
     -- LaterTypeSpecifier
@@ -1229,20 +1265,36 @@ goals =
     record { kinds = (284 ∷ 287 ∷ 291 ∷ 316 ∷ 319 ∷ 321 ∷ 325 ∷ 328 ∷ 331 ∷ 285 ∷ 333 ∷ 334 ∷ 335 ∷ 293 ∷ 294 ∷ 298 ∷ 301 ∷ 305 ∷ 307 ∷ 310 ∷ 359 ∷ 362 ∷ 366 ∷ 368 ∷ 370 ∷ 373 ∷ []); openers = (332 ∷ 286 ∷ []); suffixes = (281 ∷ 311 ∷ 354 ∷ []); firsts = (cl.Ident ∷ cl.IdentColon ∷ cl.TypedefName ∷ cl.TypedefColon ∷ cl.LeftParen ∷ cl.TypeParen ∷ cl.LiteralParen ∷ cl.LeftBracket ∷ cl.Star ∷ []); goes = (cl.Ident ∷ cl.IdentColon ∷ cl.TypedefName ∷ cl.TypedefColon ∷ cl.LeftParen ∷ cl.TypeParen ∷ cl.LiteralParen ∷ cl.LeftBracket ∷ cl.Star ∷ cl.Const ∷ cl.Restrict ∷ cl.Volatile ∷ cl.Atomic ∷ []); shuns = None; flat = true } ∷
     -- DirectAnyDeclarator
     record { kinds = (287 ∷ 291 ∷ 316 ∷ 319 ∷ 321 ∷ 325 ∷ 328 ∷ 331 ∷ 293 ∷ 294 ∷ 298 ∷ 301 ∷ 305 ∷ 307 ∷ 310 ∷ 359 ∷ 362 ∷ 366 ∷ 368 ∷ 370 ∷ 373 ∷ []); openers = (286 ∷ []); suffixes = (311 ∷ 354 ∷ []); firsts = (cl.Ident ∷ cl.IdentColon ∷ cl.TypedefName ∷ cl.TypedefColon ∷ cl.LeftParen ∷ cl.TypeParen ∷ cl.LiteralParen ∷ cl.LeftBracket ∷ []); goes = (cl.LeftParen ∷ cl.TypeParen ∷ cl.LiteralParen ∷ cl.LeftBracket ∷ []); shuns = None; flat = true } ∷
+    -- ClosedStatement
+    record { kinds = (409 ∷ 415 ∷ 420 ∷ 424 ∷ 429 ∷ 441 ∷ 448 ∷ 456 ∷ 463 ∷ 474 ∷ 482 ∷ 486 ∷ 488 ∷ 490 ∷ 493 ∷ []); openers = (404 ∷ 421 ∷ 427 ∷ 430 ∷ 449 ∷ 483 ∷ []); suffixes = []; firsts = (cl.Ident ∷ cl.IdentColon ∷ cl.TypedefName ∷ cl.TypedefColon ∷ cl.Constant ∷ cl.String ∷ cl.LeftParen ∷ cl.TypeParen ∷ cl.LiteralParen ∷ cl.LeftBrace ∷ cl.PlusPlus ∷ cl.MinusMinus ∷ cl.Ampersand ∷ cl.Star ∷ cl.Plus ∷ cl.Minus ∷ cl.Tilde ∷ cl.Bang ∷ cl.Semicolon ∷ cl.Sizeof ∷ cl.Alignof ∷ cl.Generic ∷ cl.Default ∷ cl.Case ∷ cl.If ∷ cl.Switch ∷ cl.While ∷ cl.Do ∷ cl.For ∷ cl.Goto ∷ cl.Continue ∷ cl.Break ∷ cl.Return ∷ []); goes = []; shuns = None; flat = false } ∷
+    -- OpenStatement
+    record { kinds = (408 ∷ 414 ∷ 419 ∷ 436 ∷ 437 ∷ 440 ∷ 447 ∷ 462 ∷ 473 ∷ 481 ∷ []); openers = (404 ∷ 430 ∷ 449 ∷ []); suffixes = []; firsts = (cl.IdentColon ∷ cl.TypedefColon ∷ cl.Default ∷ cl.Case ∷ cl.If ∷ cl.Switch ∷ cl.While ∷ cl.Do ∷ cl.For ∷ []); goes = []; shuns = None; flat = false } ∷
+    -- ClosedLabeledStatement
+    record { kinds = (409 ∷ 415 ∷ 420 ∷ []); openers = (404 ∷ []); suffixes = []; firsts = (cl.IdentColon ∷ cl.TypedefColon ∷ cl.Default ∷ cl.Case ∷ []); goes = []; shuns = None; flat = false } ∷
+    -- OpenLabeledStatement
+    record { kinds = (408 ∷ 414 ∷ 419 ∷ []); openers = (404 ∷ []); suffixes = []; firsts = (cl.IdentColon ∷ cl.TypedefColon ∷ cl.Default ∷ cl.Case ∷ []); goes = []; shuns = None; flat = false } ∷
+    -- ClosedSelectionStatement
+    record { kinds = (441 ∷ 448 ∷ []); openers = (430 ∷ []); suffixes = []; firsts = (cl.If ∷ cl.Switch ∷ []); goes = []; shuns = None; flat = false } ∷
+    -- OpenSelectionStatement
+    record { kinds = (436 ∷ 437 ∷ 440 ∷ 447 ∷ []); openers = (430 ∷ []); suffixes = []; firsts = (cl.If ∷ cl.Switch ∷ []); goes = []; shuns = None; flat = false } ∷
+    -- ClosedIterationStatement
+    record { kinds = (456 ∷ 463 ∷ 474 ∷ 482 ∷ []); openers = (449 ∷ []); suffixes = []; firsts = (cl.While ∷ cl.Do ∷ cl.For ∷ []); goes = []; shuns = None; flat = false } ∷
+    -- OpenIterationStatement
+    record { kinds = (462 ∷ 473 ∷ 481 ∷ []); openers = (449 ∷ []); suffixes = []; firsts = (cl.While ∷ cl.Do ∷ cl.For ∷ []); goes = []; shuns = None; flat = false } ∷
     -- UnlabelledExpression
     record { kinds = (158 ∷ 142 ∷ 138 ∷ 132 ∷ 128 ∷ 124 ∷ 120 ∷ 116 ∷ 110 ∷ 112 ∷ 100 ∷ 102 ∷ 104 ∷ 106 ∷ 94 ∷ 96 ∷ 88 ∷ 90 ∷ 80 ∷ 82 ∷ 84 ∷ 76 ∷ 51 ∷ 53 ∷ 55 ∷ 57 ∷ 60 ∷ 64 ∷ 28 ∷ 31 ∷ 33 ∷ 35 ∷ 36 ∷ 37 ∷ 44 ∷ 46 ∷ 2 ∷ 3 ∷ 4 ∷ 7 ∷ 14 ∷ []); openers = (49 ∷ 38 ∷ 1 ∷ 8 ∷ 72 ∷ []); suffixes = (155 ∷ 139 ∷ 24 ∷ 133 ∷ 129 ∷ 125 ∷ 121 ∷ 117 ∷ 113 ∷ 107 ∷ 97 ∷ 91 ∷ 85 ∷ 77 ∷ []); firsts = (cl.Ident ∷ cl.TypedefName ∷ cl.Constant ∷ cl.String ∷ cl.LeftParen ∷ cl.TypeParen ∷ cl.LiteralParen ∷ cl.PlusPlus ∷ cl.MinusMinus ∷ cl.Ampersand ∷ cl.Star ∷ cl.Plus ∷ cl.Minus ∷ cl.Tilde ∷ cl.Bang ∷ cl.Sizeof ∷ cl.Alignof ∷ cl.Generic ∷ []); goes = (cl.String ∷ cl.LeftParen ∷ cl.TypeParen ∷ cl.LiteralParen ∷ cl.LeftBracket ∷ cl.Dot ∷ cl.Arrow ∷ cl.PlusPlus ∷ cl.MinusMinus ∷ cl.Ampersand ∷ cl.Star ∷ cl.Plus ∷ cl.Minus ∷ cl.Slash ∷ cl.Percent ∷ cl.ShiftLeft ∷ cl.ShiftRight ∷ cl.Less ∷ cl.Greater ∷ cl.LessEqual ∷ cl.GreaterEqual ∷ cl.EqualEqual ∷ cl.BangEqual ∷ cl.Caret ∷ cl.Bar ∷ cl.AndAnd ∷ cl.OrOr ∷ cl.Question ∷ cl.Comma ∷ cl.Equal ∷ cl.StarEqual ∷ cl.SlashEqual ∷ cl.PercentEqual ∷ cl.PlusEqual ∷ cl.MinusEqual ∷ cl.ShiftLeftEqual ∷ cl.ShiftRightEqual ∷ cl.AmpersandEqual ∷ cl.CaretEqual ∷ cl.BarEqual ∷ []); shuns = Some te.Label; flat = true } ∷
     -- PlainExpression
     record { kinds = (158 ∷ 142 ∷ 138 ∷ 132 ∷ 128 ∷ 124 ∷ 120 ∷ 116 ∷ 110 ∷ 112 ∷ 100 ∷ 102 ∷ 104 ∷ 106 ∷ 94 ∷ 96 ∷ 88 ∷ 90 ∷ 80 ∷ 82 ∷ 84 ∷ 76 ∷ 51 ∷ 53 ∷ 55 ∷ 57 ∷ 60 ∷ 64 ∷ 28 ∷ 31 ∷ 33 ∷ 35 ∷ 36 ∷ 37 ∷ 44 ∷ 46 ∷ 2 ∷ 3 ∷ 4 ∷ 7 ∷ 14 ∷ []); openers = (49 ∷ 38 ∷ 1 ∷ 8 ∷ 72 ∷ []); suffixes = (155 ∷ 139 ∷ 24 ∷ 133 ∷ 129 ∷ 125 ∷ 121 ∷ 117 ∷ 113 ∷ 107 ∷ 97 ∷ 91 ∷ 85 ∷ 77 ∷ []); firsts = (cl.Ident ∷ cl.Constant ∷ cl.String ∷ cl.LeftParen ∷ cl.TypeParen ∷ cl.LiteralParen ∷ cl.PlusPlus ∷ cl.MinusMinus ∷ cl.Ampersand ∷ cl.Star ∷ cl.Plus ∷ cl.Minus ∷ cl.Tilde ∷ cl.Bang ∷ cl.Sizeof ∷ cl.Alignof ∷ cl.Generic ∷ []); goes = (cl.String ∷ cl.LeftParen ∷ cl.TypeParen ∷ cl.LiteralParen ∷ cl.LeftBracket ∷ cl.Dot ∷ cl.Arrow ∷ cl.PlusPlus ∷ cl.MinusMinus ∷ cl.Ampersand ∷ cl.Star ∷ cl.Plus ∷ cl.Minus ∷ cl.Slash ∷ cl.Percent ∷ cl.ShiftLeft ∷ cl.ShiftRight ∷ cl.Less ∷ cl.Greater ∷ cl.LessEqual ∷ cl.GreaterEqual ∷ cl.EqualEqual ∷ cl.BangEqual ∷ cl.Caret ∷ cl.Bar ∷ cl.AndAnd ∷ cl.OrOr ∷ cl.Question ∷ cl.Comma ∷ cl.Equal ∷ cl.StarEqual ∷ cl.SlashEqual ∷ cl.PercentEqual ∷ cl.PlusEqual ∷ cl.MinusEqual ∷ cl.ShiftLeftEqual ∷ cl.ShiftRightEqual ∷ cl.AmpersandEqual ∷ cl.CaretEqual ∷ cl.BarEqual ∷ []); shuns = Some te.Marked; flat = true } ∷
     -- BlockStatement
-    record { kinds = (407 ∷ 411 ∷ 414 ∷ 418 ∷ 478 ∷ 429 ∷ 431 ∷ 436 ∷ 442 ∷ 449 ∷ 458 ∷ 464 ∷ 468 ∷ 470 ∷ 472 ∷ 475 ∷ []); openers = (404 ∷ 415 ∷ 476 ∷ 424 ∷ 437 ∷ 465 ∷ []); suffixes = []; firsts = (cl.Ident ∷ cl.IdentColon ∷ cl.TypedefColon ∷ cl.Constant ∷ cl.String ∷ cl.LeftParen ∷ cl.TypeParen ∷ cl.LiteralParen ∷ cl.LeftBrace ∷ cl.PlusPlus ∷ cl.MinusMinus ∷ cl.Ampersand ∷ cl.Star ∷ cl.Plus ∷ cl.Minus ∷ cl.Tilde ∷ cl.Bang ∷ cl.Semicolon ∷ cl.Sizeof ∷ cl.Alignof ∷ cl.Generic ∷ cl.Default ∷ cl.Case ∷ cl.If ∷ cl.Switch ∷ cl.While ∷ cl.Do ∷ cl.For ∷ cl.Goto ∷ cl.Continue ∷ cl.Break ∷ cl.Return ∷ []); goes = []; shuns = None; flat = false } ∷
+    record { kinds = (409 ∷ 415 ∷ 420 ∷ 408 ∷ 414 ∷ 419 ∷ 424 ∷ 496 ∷ 441 ∷ 448 ∷ 436 ∷ 437 ∷ 440 ∷ 447 ∷ 456 ∷ 463 ∷ 474 ∷ 482 ∷ 462 ∷ 473 ∷ 481 ∷ 486 ∷ 488 ∷ 490 ∷ 493 ∷ []); openers = (404 ∷ 421 ∷ 494 ∷ 430 ∷ 449 ∷ 483 ∷ []); suffixes = []; firsts = (cl.Ident ∷ cl.IdentColon ∷ cl.TypedefColon ∷ cl.Constant ∷ cl.String ∷ cl.LeftParen ∷ cl.TypeParen ∷ cl.LiteralParen ∷ cl.LeftBrace ∷ cl.PlusPlus ∷ cl.MinusMinus ∷ cl.Ampersand ∷ cl.Star ∷ cl.Plus ∷ cl.Minus ∷ cl.Tilde ∷ cl.Bang ∷ cl.Semicolon ∷ cl.Sizeof ∷ cl.Alignof ∷ cl.Generic ∷ cl.Default ∷ cl.Case ∷ cl.If ∷ cl.Switch ∷ cl.While ∷ cl.Do ∷ cl.For ∷ cl.Goto ∷ cl.Continue ∷ cl.Break ∷ cl.Return ∷ []); goes = []; shuns = None; flat = false } ∷
     -- BlockExpressionStatement
-    record { kinds = (478 ∷ []); openers = (476 ∷ []); suffixes = []; firsts = (cl.Ident ∷ cl.Constant ∷ cl.String ∷ cl.LeftParen ∷ cl.TypeParen ∷ cl.LiteralParen ∷ cl.PlusPlus ∷ cl.MinusMinus ∷ cl.Ampersand ∷ cl.Star ∷ cl.Plus ∷ cl.Minus ∷ cl.Tilde ∷ cl.Bang ∷ cl.Semicolon ∷ cl.Sizeof ∷ cl.Alignof ∷ cl.Generic ∷ []); goes = []; shuns = None; flat = true } ∷
+    record { kinds = (496 ∷ []); openers = (494 ∷ []); suffixes = []; firsts = (cl.Ident ∷ cl.Constant ∷ cl.String ∷ cl.LeftParen ∷ cl.TypeParen ∷ cl.LiteralParen ∷ cl.PlusPlus ∷ cl.MinusMinus ∷ cl.Ampersand ∷ cl.Star ∷ cl.Plus ∷ cl.Minus ∷ cl.Tilde ∷ cl.Bang ∷ cl.Semicolon ∷ cl.Sizeof ∷ cl.Alignof ∷ cl.Generic ∷ []); goes = []; shuns = None; flat = true } ∷
     -- BlockDeclaration
-    record { kinds = (482 ∷ 403 ∷ []); openers = (479 ∷ 396 ∷ []); suffixes = []; firsts = (cl.TypedefName ∷ cl.StaticAssert ∷ cl.Typedef ∷ cl.Extern ∷ cl.Static ∷ cl.ThreadLocal ∷ cl.Auto ∷ cl.Register ∷ cl.Void ∷ cl.Char ∷ cl.Short ∷ cl.Int ∷ cl.Long ∷ cl.Float ∷ cl.Double ∷ cl.Signed ∷ cl.Unsigned ∷ cl.Bool ∷ cl.Struct ∷ cl.Union ∷ cl.Enum ∷ cl.Const ∷ cl.Restrict ∷ cl.Volatile ∷ cl.Atomic ∷ cl.AtomicParen ∷ cl.Inline ∷ cl.Noreturn ∷ cl.Alignas ∷ []); goes = []; shuns = None; flat = true } ∷
+    record { kinds = (500 ∷ 403 ∷ []); openers = (497 ∷ 396 ∷ []); suffixes = []; firsts = (cl.TypedefName ∷ cl.StaticAssert ∷ cl.Typedef ∷ cl.Extern ∷ cl.Static ∷ cl.ThreadLocal ∷ cl.Auto ∷ cl.Register ∷ cl.Void ∷ cl.Char ∷ cl.Short ∷ cl.Int ∷ cl.Long ∷ cl.Float ∷ cl.Double ∷ cl.Signed ∷ cl.Unsigned ∷ cl.Bool ∷ cl.Struct ∷ cl.Union ∷ cl.Enum ∷ cl.Const ∷ cl.Restrict ∷ cl.Volatile ∷ cl.Atomic ∷ cl.AtomicParen ∷ cl.Inline ∷ cl.Noreturn ∷ cl.Alignas ∷ []); goes = []; shuns = None; flat = true } ∷
     -- BlockSpecifiers
     record { kinds = (164 ∷ 165 ∷ []); openers = (163 ∷ []); suffixes = []; firsts = (cl.TypedefName ∷ cl.Typedef ∷ cl.Extern ∷ cl.Static ∷ cl.ThreadLocal ∷ cl.Auto ∷ cl.Register ∷ cl.Void ∷ cl.Char ∷ cl.Short ∷ cl.Int ∷ cl.Long ∷ cl.Float ∷ cl.Double ∷ cl.Signed ∷ cl.Unsigned ∷ cl.Bool ∷ cl.Struct ∷ cl.Union ∷ cl.Enum ∷ cl.Const ∷ cl.Restrict ∷ cl.Volatile ∷ cl.Atomic ∷ cl.AtomicParen ∷ cl.Inline ∷ cl.Noreturn ∷ cl.Alignas ∷ []); goes = (cl.LeftBrace ∷ cl.Typedef ∷ cl.Extern ∷ cl.Static ∷ cl.ThreadLocal ∷ cl.Auto ∷ cl.Register ∷ cl.Void ∷ cl.Char ∷ cl.Short ∷ cl.Int ∷ cl.Long ∷ cl.Float ∷ cl.Double ∷ cl.Signed ∷ cl.Unsigned ∷ cl.Bool ∷ cl.Struct ∷ cl.Union ∷ cl.Enum ∷ cl.Const ∷ cl.Restrict ∷ cl.Volatile ∷ cl.Atomic ∷ cl.AtomicParen ∷ cl.Inline ∷ cl.Noreturn ∷ cl.Alignas ∷ []); shuns = Some te.Label; flat = true } ∷
     -- FunctionBody
-    record { kinds = (490 ∷ []); openers = (487 ∷ []); suffixes = []; firsts = (cl.LeftBrace ∷ []); goes = []; shuns = None; flat = false } ∷
+    record { kinds = (508 ∷ []); openers = (505 ∷ []); suffixes = []; firsts = (cl.LeftBrace ∷ []); goes = []; shuns = None; flat = false } ∷
     []
 
 -- the tokens that begin an item of a block or what is none: all but what ends the block
@@ -1251,7 +1303,17 @@ entry_classes = cl.Ident ∷ cl.IdentColon ∷ cl.TypedefName ∷ cl.TypedefColo
 
 -- the places where the productions begin, by the numbers of these
 unfoldable pub starts : List ℕ
-starts = 1 ∷ 1 ∷ 1 ∷ 1 ∷ 8 ∷ 15 ∷ 17 ∷ 17 ∷ 24 ∷ 24 ∷ 24 ∷ 24 ∷ 24 ∷ 24 ∷ 38 ∷ 38 ∷ 47 ∷ 49 ∷ 49 ∷ 49 ∷ 49 ∷ 49 ∷ 49 ∷ 65 ∷ 65 ∷ 65 ∷ 65 ∷ 65 ∷ 65 ∷ 72 ∷ 77 ∷ 77 ∷ 77 ∷ 85 ∷ 85 ∷ 91 ∷ 91 ∷ 97 ∷ 97 ∷ 97 ∷ 97 ∷ 107 ∷ 107 ∷ 113 ∷ 117 ∷ 121 ∷ 125 ∷ 129 ∷ 133 ∷ 139 ∷ 143 ∷ 143 ∷ 143 ∷ 143 ∷ 143 ∷ 143 ∷ 143 ∷ 143 ∷ 143 ∷ 143 ∷ 143 ∷ 155 ∷ 159 ∷ 163 ∷ 163 ∷ 166 ∷ 168 ∷ 172 ∷ 172 ∷ 172 ∷ 172 ∷ 172 ∷ 172 ∷ 179 ∷ 179 ∷ 179 ∷ 179 ∷ 179 ∷ 179 ∷ 179 ∷ 179 ∷ 179 ∷ 179 ∷ 190 ∷ 190 ∷ 196 ∷ 196 ∷ 199 ∷ 201 ∷ 205 ∷ 205 ∷ 208 ∷ 210 ∷ 214 ∷ 217 ∷ 217 ∷ 217 ∷ 225 ∷ 227 ∷ 227 ∷ 231 ∷ 236 ∷ 236 ∷ 236 ∷ 236 ∷ 241 ∷ 241 ∷ 244 ∷ 244 ∷ 252 ∷ 255 ∷ 255 ∷ 260 ∷ 260 ∷ 260 ∷ 260 ∷ 260 ∷ 260 ∷ 281 ∷ 286 ∷ 286 ∷ 311 ∷ 311 ∷ 311 ∷ 311 ∷ 311 ∷ 311 ∷ 332 ∷ 332 ∷ 336 ∷ 338 ∷ 342 ∷ 344 ∷ 344 ∷ 349 ∷ 351 ∷ 281 ∷ 286 ∷ 286 ∷ 286 ∷ 286 ∷ 286 ∷ 354 ∷ 354 ∷ 354 ∷ 354 ∷ 286 ∷ 286 ∷ 354 ∷ 354 ∷ 374 ∷ 376 ∷ 376 ∷ 382 ∷ 385 ∷ 388 ∷ 390 ∷ 390 ∷ 396 ∷ 404 ∷ 404 ∷ 404 ∷ 415 ∷ 419 ∷ 421 ∷ 424 ∷ 424 ∷ 424 ∷ 437 ∷ 437 ∷ 437 ∷ 437 ∷ 465 ∷ 465 ∷ 465 ∷ 465 ∷ 476 ∷ 479 ∷ 483 ∷ 487 ∷ []
+starts = 1 ∷ 1 ∷ 1 ∷ 1 ∷ 8 ∷ 15 ∷ 17 ∷ 17 ∷ 24 ∷ 24 ∷ 24 ∷ 24 ∷ 24 ∷ 24 ∷ 38 ∷ 38 ∷ 47 ∷ 49 ∷ 49 ∷ 49 ∷ 49 ∷ 49 ∷ 49 ∷ 65 ∷ 65 ∷ 65 ∷ 65 ∷ 65 ∷ 65 ∷ 72 ∷ 77 ∷ 77 ∷ 77 ∷ 85 ∷ 85 ∷ 91 ∷ 91 ∷ 97 ∷ 97 ∷ 97 ∷ 97 ∷ 107 ∷ 107 ∷ 113 ∷ 117 ∷ 121 ∷ 125 ∷ 129 ∷ 133 ∷ 139 ∷ 143 ∷ 143 ∷ 143 ∷ 143 ∷ 143 ∷ 143 ∷ 143 ∷ 143 ∷ 143 ∷ 143 ∷ 143 ∷ 155 ∷ 159 ∷ 163 ∷ 163 ∷ 166 ∷ 168 ∷ 172 ∷ 172 ∷ 172 ∷ 172 ∷ 172 ∷ 172 ∷ 179 ∷ 179 ∷ 179 ∷ 179 ∷ 179 ∷ 179 ∷ 179 ∷ 179 ∷ 179 ∷ 179 ∷ 190 ∷ 190 ∷ 196 ∷ 196 ∷ 199 ∷ 201 ∷ 205 ∷ 205 ∷ 208 ∷ 210 ∷ 214 ∷ 217 ∷ 217 ∷ 217 ∷ 225 ∷ 227 ∷ 227 ∷ 231 ∷ 236 ∷ 236 ∷ 236 ∷ 236 ∷ 241 ∷ 241 ∷ 244 ∷ 244 ∷ 252 ∷ 255 ∷ 255 ∷ 260 ∷ 260 ∷ 260 ∷ 260 ∷ 260 ∷ 260 ∷ 281 ∷ 286 ∷ 286 ∷ 311 ∷ 311 ∷ 311 ∷ 311 ∷ 311 ∷ 311 ∷ 332 ∷ 332 ∷ 336 ∷ 338 ∷ 342 ∷ 344 ∷ 344 ∷ 349 ∷ 351 ∷ 281 ∷ 286 ∷ 286 ∷ 286 ∷ 286 ∷ 286 ∷ 354 ∷ 354 ∷ 354 ∷ 354 ∷ 286 ∷ 286 ∷ 354 ∷ 354 ∷ 374 ∷ 376 ∷ 376 ∷ 382 ∷ 385 ∷ 388 ∷ 390 ∷ 390 ∷ 396 ∷ 404 ∷ 404 ∷ 404 ∷ 404 ∷ 404 ∷ 404 ∷ 421 ∷ 425 ∷ 427 ∷ 430 ∷ 430 ∷ 430 ∷ 430 ∷ 430 ∷ 430 ∷ 449 ∷ 449 ∷ 449 ∷ 449 ∷ 449 ∷ 449 ∷ 449 ∷ 483 ∷ 483 ∷ 483 ∷ 483 ∷ 494 ∷ 497 ∷ 501 ∷ 505 ∷ []
+
+-- the places before and after the `else` of an `if`, and after the statement that follows it
+abbrev pub before_else : ℕ
+before_else = 437
+
+abbrev pub after_else : ℕ
+after_else = 438
+
+abbrev pub past_else : ℕ
+past_else = 439
 
 abbrev pub number : Nonterminal → ℕ
 number nt.PrimaryExpression = 0
@@ -1334,13 +1396,21 @@ number nt.ParameterDeclarator = 76
 number nt.DirectParameterDeclarator = 77
 number nt.AnyDeclarator = 78
 number nt.DirectAnyDeclarator = 79
-number nt.UnlabelledExpression = 80
-number nt.PlainExpression = 81
-number nt.BlockStatement = 82
-number nt.BlockExpressionStatement = 83
-number nt.BlockDeclaration = 84
-number nt.BlockSpecifiers = 85
-number nt.FunctionBody = 86
+number nt.ClosedStatement = 80
+number nt.OpenStatement = 81
+number nt.ClosedLabeledStatement = 82
+number nt.OpenLabeledStatement = 83
+number nt.ClosedSelectionStatement = 84
+number nt.OpenSelectionStatement = 85
+number nt.ClosedIterationStatement = 86
+number nt.OpenIterationStatement = 87
+number nt.UnlabelledExpression = 88
+number nt.PlainExpression = 89
+number nt.BlockStatement = 90
+number nt.BlockExpressionStatement = 91
+number nt.BlockDeclaration = 92
+number nt.BlockSpecifiers = 93
+number nt.FunctionBody = 94
 
 abbrev pub place_of : Option Place → Place
 place_of None = nowhere
@@ -1422,6 +1492,11 @@ turned (Some w) q b = cond b w.named w.other
 unfoldable pub turn : ℕ → ℕ → ℕ
 turn q z = turned (turning q) q (is_named z)
 
+-- the place after what stands first at a place
+abbrev pub next_by : Option Edge → ℕ → ℕ
+next_by None q = q
+next_by (Some e) q = e.next
+
 -- the lists as the code has them
 abbrev edges_in : List Place → List Edge
 edges_in [] = []
@@ -1490,6 +1565,7 @@ all_firsts =
     cl.Void ∷ cl.Char ∷ cl.Short ∷ cl.Int ∷ cl.Long ∷ cl.Float ∷ cl.Double ∷ cl.Signed ∷ cl.Unsigned ∷ cl.Bool ∷ cl.Struct ∷ cl.Union ∷ cl.Enum ∷ cl.AtomicParen ∷
     cl.Typedef ∷ cl.Extern ∷ cl.Static ∷ cl.ThreadLocal ∷ cl.Auto ∷ cl.Register ∷ cl.Void ∷ cl.Char ∷ cl.Short ∷ cl.Int ∷ cl.Long ∷ cl.Float ∷ cl.Double ∷ cl.Signed ∷ cl.Unsigned ∷ cl.Bool ∷ cl.Struct ∷ cl.Union ∷ cl.Enum ∷ cl.Const ∷ cl.Restrict ∷ cl.Volatile ∷ cl.Atomic ∷ cl.AtomicParen ∷ cl.Inline ∷ cl.Noreturn ∷ cl.Alignas ∷
     cl.Void ∷ cl.Char ∷ cl.Short ∷ cl.Int ∷ cl.Long ∷ cl.Float ∷ cl.Double ∷ cl.Signed ∷ cl.Unsigned ∷ cl.Bool ∷ cl.Struct ∷ cl.Union ∷ cl.Enum ∷ cl.Const ∷ cl.Restrict ∷ cl.Volatile ∷ cl.Atomic ∷ cl.AtomicParen ∷
+    cl.IdentColon ∷ cl.TypedefColon ∷ cl.Default ∷ cl.Case ∷ cl.If ∷ cl.Switch ∷ cl.While ∷ cl.Do ∷ cl.For ∷
     cl.Ident ∷ cl.TypedefName ∷ cl.Constant ∷ cl.String ∷ cl.LeftParen ∷ cl.TypeParen ∷ cl.LiteralParen ∷ cl.PlusPlus ∷ cl.MinusMinus ∷ cl.Ampersand ∷ cl.Star ∷ cl.Plus ∷ cl.Minus ∷ cl.Tilde ∷ cl.Bang ∷ cl.Sizeof ∷ cl.Alignof ∷ cl.Generic ∷
     cl.Ident ∷ cl.Constant ∷ cl.String ∷ cl.LeftParen ∷ cl.TypeParen ∷ cl.LiteralParen ∷ cl.PlusPlus ∷ cl.MinusMinus ∷ cl.Ampersand ∷ cl.Star ∷ cl.Plus ∷ cl.Minus ∷ cl.Tilde ∷ cl.Bang ∷ cl.Sizeof ∷ cl.Alignof ∷ cl.Generic ∷
     cl.Ident ∷ cl.IdentColon ∷ cl.TypedefColon ∷ cl.Constant ∷ cl.String ∷ cl.LeftParen ∷ cl.TypeParen ∷ cl.LiteralParen ∷ cl.LeftBrace ∷ cl.PlusPlus ∷ cl.MinusMinus ∷ cl.Ampersand ∷ cl.Star ∷ cl.Plus ∷ cl.Minus ∷ cl.Tilde ∷ cl.Bang ∷ cl.Semicolon ∷ cl.Sizeof ∷ cl.Alignof ∷ cl.Generic ∷ cl.Default ∷ cl.Case ∷ cl.If ∷ cl.Switch ∷ cl.While ∷ cl.Do ∷ cl.For ∷ cl.Goto ∷ cl.Continue ∷ cl.Break ∷ cl.Return ∷
@@ -1581,12 +1657,20 @@ first_spans =
     record { from = 266; to = 274 } ∷
     record { from = 257; to = 266 } ∷
     record { from = 266; to = 274 } ∷
-    record { from = 622; to = 640 } ∷
-    record { from = 640; to = 657 } ∷
-    record { from = 657; to = 689 } ∷
-    record { from = 689; to = 707 } ∷
-    record { from = 707; to = 736 } ∷
-    record { from = 736; to = 764 } ∷
+    record { from = 323; to = 356 } ∷
+    record { from = 622; to = 631 } ∷
+    record { from = 356; to = 360 } ∷
+    record { from = 356; to = 360 } ∷
+    record { from = 541; to = 543 } ∷
+    record { from = 541; to = 543 } ∷
+    record { from = 543; to = 546 } ∷
+    record { from = 543; to = 546 } ∷
+    record { from = 631; to = 649 } ∷
+    record { from = 649; to = 666 } ∷
+    record { from = 666; to = 698 } ∷
+    record { from = 698; to = 716 } ∷
+    record { from = 716; to = 745 } ∷
+    record { from = 745; to = 773 } ∷
     record { from = 360; to = 361 } ∷
     []
 
