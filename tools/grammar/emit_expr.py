@@ -14,7 +14,7 @@ def ranges(lists):
     for l in lists: out.append((at, at + len(l))); at += len(l)
     return out
 er = ranges([q['edges'] for q in P])
-kr = ranges([K[g] for g in GOALS]); orr = ranges([openers[g] for g in GOALS]); sr = ranges([suffixes[g] for g in GOALS]); SETS_OF = list(dict.fromkeys(tuple(order(F[g])) for g in GOALS)); sr_ = ranges(SETS_OF); fr = [sr_[SETS_OF.index(tuple(order(F[g])))] for g in GOALS]
+kr = ranges([K[g] for g in GOALS]); orr = ranges([openers[g] for g in GOALS]); sr = ranges([suffixes[g] for g in GOALS])
 ROWS = '''// a list, in lines as they stand
 macro_rules! rows {
     ($($row:expr),* $(,)?) => {
@@ -214,12 +214,11 @@ macro_rules! span {
 }
 
 macro_rules! goal {
-    ($kinds:expr, $openers:expr, $suffixes:expr, $firsts:expr, $shuns:expr) => {
+    ($kinds:expr, $openers:expr, $suffixes:expr, $shuns:expr) => {
         GoalRow {
             kinds: $kinds,
             openers: $openers,
             suffixes: $suffixes,
-            firsts: $firsts,
             shuns: $shuns,
         }
     };
@@ -228,23 +227,80 @@ macro_rules! goal {
 ''' + ROWS
 def shun_rs(g): return f'Some({cterm(SHUNS[g])})' if g in SHUNS else 'None'
 sp = lambda r: f'span!({r[0]}, {r[1]})'
-q += chunked('GOALS', 'GoalRow', [f'goal!({sp(kr[i])}, {sp(orr[i])}, {sp(sr[i])}, {sp(fr[i])}, {shun_rs(g)})' for i, g in enumerate(GOALS)], 0, False)
+q += chunked('GOALS', 'GoalRow', [f'goal!({sp(kr[i])}, {sp(orr[i])}, {sp(sr[i])}, {shun_rs(g)})' for i, g in enumerate(GOALS)], 0, False)
 q += chunked('KINDS', 'u16', [str(z) for g in GOALS for z in K[g]], 0)
 q += chunked('OPENERS', 'u16', [str(z) for g in GOALS for z in openers[g]], 0)
 q += chunked('SUFFIXES', 'u16', [str(z) for g in GOALS for z in suffixes[g]], 0)
 q += '\n'.join(fn(*x) for x in (('goal_rows', 'GOALS', 'GoalRow', 'The nonterminals'), ('all_kinds', 'KINDS', 'u16', 'The places where the trees of each nonterminal end'),
     ('all_openers', 'OPENERS', 'u16', 'The places at the left end of each nonterminal'), ('all_suffixes', 'SUFFIXES', 'u16', 'The places that go on from there')))
 w('src/goal_rows.rt', q.replace('use cl_tree::{Class, Span};', 'use cl_tree::{Span, Terminal};'))
-q = '''//! The classes of tokens that begin each nonterminal. Written by tools/grammar/emit_expr.py.
+# what a token of each class begins: at a place the number of an edge, at a nonterminal that of an opener, or of a suffix that may go on; from 1, and 0 for nothing.
+# A row has a character for each class, in their order: 0 is '0', and so on
+def first_of(lists, c): return next((i + 1 for i, l in enumerate(lists) if c in l), 0)
+def number_row(lists): return ''.join(chr(48 + first_of(lists, c)) for c in CLASSES)
+PLACE_ROWS = [number_row([beg(e) for e in q['edges']]) for q in P]
+OPENER_ROWS = [number_row([entering(s) for s in openers[g]]) for g in GOALS]
+SUFFIX_ROWS = [number_row([entering(P[s]['corner'][1]) for s in suffixes[g]]) for g in GOALS]
+NUMBER_ROWS = list(dict.fromkeys(PLACE_ROWS + OPENER_ROWS + SUFFIX_ROWS))
+assert len(NUMBER_ROWS) <= 256 and all(r.isprintable() and '"' not in r and '\\' not in r for r in NUMBER_ROWS)
+LOOKS = [('place_numbers', 'PLACES', 'The rows of the places', PLACE_ROWS), ('opener_numbers', 'OPENERS', 'The rows of what begins a nonterminal', OPENER_ROWS),
+    ('suffix_numbers', 'SUFFIXES', 'The rows of what goes on from a nonterminal', SUFFIX_ROWS)]
+q = '''//! What a token begins, as rows of numbers. Written by tools/grammar/emit_expr.py.
+//!
+//! A row has a character for each class of tokens, in their order: `0` for nothing, `1` for the first edge, opener or suffix, and so on.
 
-ghost use Rattle.std.specs.Prelude.{◌≡◌};
-ghost use Rattle.cl_expr.specs.code.Table as t;
-
-use cl_tree::Class;
+ghost use Rattle.std.specs.Prelude.{◌≡◌, map};
+ghost use Rattle.cl_expr.specs.code.Looks as l;
 
 ''' + ROWS
-q += chunked('FIRSTS', 'Class', [f'Class::{c}' for x in SETS_OF for c in x], 0, False) + fn('all_firsts', 'FIRSTS', 'Class', 'The classes of tokens that begin each nonterminal')
-w('src/first_rows.rt', q)
+q += f"static NUMBERS: [&'static [u8]; {len(NUMBER_ROWS)}] = rows! {{\n" + ''.join(f'    b"{r}",\n' for r in NUMBER_ROWS) + '};\n\n'
+for f, st, doc, rows in LOOKS: q += chunked(st, 'u8', [str(NUMBER_ROWS.index(r)) for r in rows], 0)
+q += '''/// The rows of numbers.
+pub fn number_rows() -> &'static [&'static [u8]]
+    ensures { map l.bytes result.now ≡ l.number_rows }
+{
+    &NUMBERS
+}
+
+''' + '\n'.join(fn(f, st, 'u8', doc).replace(' t.', ' l.') for f, st, doc, rows in LOOKS)
+w('src/look_rows.rt', q)
+A = '''-- What a token begins, as rows of numbers. Written by tools/grammar/emit_expr.py; proofs/Numbers checks it against the places.
+use Rattle.std.specs.Prelude.{ℕ, ◌-◌, List, [], ◌∷◌, Option, Some, None, slice_get, codes}
+use Rattle.std.specs.Borrow.{Bor}
+use Rattle.cl_tree.specs.declared.class.Class.{Class}
+use Rattle.cl_tree.specs.declared.class.Class.TheVariants as cl
+
+abbrev pub bytes : Bor (List ℕ) → List ℕ
+bytes r = r.now
+
+-- the rows: a character for each class, in their order
+unfoldable pub number_rows : List (List ℕ)
+number_rows =
+''' + ''.join(f'    codes "{r}" ∷\n' for r in NUMBER_ROWS) + '    []\n'
+for f, st, doc, rows in LOOKS: A += f'\n-- {doc[0].lower() + doc[1:]}\nunfoldable pub {f} : List ℕ\n{f} = ' + ' ∷ '.join(str(NUMBER_ROWS.index(r)) for r in rows) + ' ∷ []\n'
+A += '\nabbrev pub class_number : Class → ℕ\n' + ''.join(f'class_number cl.{c} = {i}\n' for i, c in enumerate(CLASSES))
+A += '''
+abbrev pub row_by : Option (List ℕ) → List ℕ
+row_by None = []
+row_by (Some row) = row
+
+abbrev pub row_of : Option ℕ → List ℕ
+row_of None = []
+row_of (Some n) = row_by (slice_get number_rows n)
+
+abbrev pub digit : Option ℕ → ℕ
+digit None = 0
+digit (Some c) = c - 48
+
+-- the number of a class in a row: 0 for nothing
+abbrev pub in_row : List ℕ → Class → ℕ
+in_row row k = digit (slice_get row (class_number k))
+
+-- the same in the row of a member of a list
+abbrev pub number_at : List ℕ → ℕ → Class → ℕ
+number_at list i k = in_row (row_of (slice_get list i)) k
+'''
+w('specs/code/Looks.antt', A)
 w('src/table.rt', '''//! Where the parser goes: places in the productions, as numbers of rows.
 
 use cl_tree::{Nonterminal, Rule, Separator, Span, Symbol, Terminal};
@@ -294,14 +350,13 @@ pub struct Row {
     pub named: bool,
 }
 
-/// A nonterminal: the places where its trees end, those at its left end and those that go on from there, the classes of
-/// tokens that begin it, as ranges, and those that may not.
+/// A nonterminal: the places where its trees end, those at its left end and those that go on from there, as ranges, and the
+/// tokens that may not begin it.
 #[derive(Clone, Copy)]
 pub struct GoalRow {
     pub kinds: Span,
     pub openers: Span,
     pub suffixes: Span,
-    pub firsts: Span,
     pub shuns: Option<Terminal>,
 }
 ''')
@@ -533,15 +588,6 @@ all_openers = flat_map (λ g. g.openers) goals
 unfoldable pub all_suffixes : List ℕ
 all_suffixes = flat_map (λ g. g.suffixes) goals
 
-unfoldable pub all_firsts : List Class
-all_firsts =
-''' + ''.join('    ' + ' ∷ '.join('cl.' + c for c in x) + ' ∷\n' for x in SETS_OF) + '''    []
-
--- where in that list the tokens stand that begin each nonterminal
-unfoldable pub first_spans : List Span
-first_spans =
-''' + ''.join(f'    record {{ from = {a}; to = {b} }} ∷\n' for a, b in fr) + '''    []
-
 abbrev rows_from : ℕ → List Place → List Row
 rows_from n [] = []
 rows_from n (p ∷ ps) = record { first = n; last = n + length p.edges; label = p.label; bar = p.bar; scoped = p.scoped; corner = p.corner; turning = p.turning; named = p.named } ∷ rows_from (n + length p.edges) ps
@@ -549,18 +595,17 @@ rows_from n (p ∷ ps) = record { first = n; last = n + length p.edges; label = 
 abbrev span : ℕ → ℕ → Span
 span n k = record { from = n; to = n + k }
 
-abbrev goal_rows_from : ℕ → ℕ → ℕ → List Span → List Goal → List GoalRow
-goal_rows_from a b c spans [] = []
-goal_rows_from a b c [] (g ∷ gs) = []
-goal_rows_from a b c (s ∷ spans) (g ∷ gs) =
-    record { kinds = span a (length g.kinds); openers = span b (length g.openers); suffixes = span c (length g.suffixes); firsts = s; shuns = g.shuns }
-    ∷ goal_rows_from (a + length g.kinds) (b + length g.openers) (c + length g.suffixes) spans gs
+abbrev goal_rows_from : ℕ → ℕ → ℕ → List Goal → List GoalRow
+goal_rows_from a b c [] = []
+goal_rows_from a b c (g ∷ gs) =
+    record { kinds = span a (length g.kinds); openers = span b (length g.openers); suffixes = span c (length g.suffixes); shuns = g.shuns }
+    ∷ goal_rows_from (a + length g.kinds) (b + length g.openers) (c + length g.suffixes) gs
 
 unfoldable pub rows : List Row
 rows = rows_from 0 places
 
 unfoldable pub goal_rows : List GoalRow
-goal_rows = goal_rows_from 0 0 0 first_spans goals
+goal_rows = goal_rows_from 0 0 0 goals
 '''
 A = A.replace('slice_get, slice_range}', 'slice_get, length, ◌+◌}')
 w('specs/code/Table.antt', A)
@@ -575,6 +620,7 @@ use Rattle.cl_tree.specs.declared.grammar.Act.{Act}
 use Rattle.cl_tree.specs.declared.grammar.Act.TheVariants as ac
 use Rattle.cl_tree.specs.declared.rule.Rule.{Rule}
 use Rattle.cl_tree.specs.declared.rule.Rule.TheVariants as ru
+use Rattle.cl_expr.specs.code.Looks.{class_number}
 use Rattle.cl_expr.specs.code.Table.{number}
 
 '''
@@ -582,6 +628,7 @@ for one, ty, m, xs in (('class', 'Class', 'cl', CLASSES), ('goal', 'Nonterminal'
     many = 'classes' if one == 'class' else one + 's'
     L += f'abbrev pub all_{many} : List {ty}\nall_{many} = {" ∷ ".join([m + "." + x for x in xs] + ["[]"])}\n\n'
     if one == 'goal': num = 'number'
+    elif one == 'class': num = 'class_number'
     else:
         num = one + '_number'
         L += f'abbrev pub {num} : {ty} → ℕ\n' + ''.join(f'{num} {m}.{x} = {i}\n' for i, x in enumerate(xs)) + '\n'

@@ -9,113 +9,11 @@ use Rattle.cl_tree.specs.declared.grammar.Act.{Act}
 use Rattle.cl_tree.specs.declared.grammar.Act.TheVariants as ac
 use Rattle.cl_tree.specs.declared.rule.Rule.{Rule}
 use Rattle.cl_tree.specs.declared.rule.Rule.TheVariants as ru
+use Rattle.cl_expr.specs.code.Looks.{class_number}
 use Rattle.cl_expr.specs.code.Table.{number}
 
 abbrev pub all_classes : List Class
 all_classes = cl.Ident ∷ cl.IdentColon ∷ cl.TypedefName ∷ cl.TypedefColon ∷ cl.Constant ∷ cl.String ∷ cl.LeftParen ∷ cl.TypeParen ∷ cl.LiteralParen ∷ cl.RightParen ∷ cl.LeftBracket ∷ cl.RightBracket ∷ cl.LeftBrace ∷ cl.RightBrace ∷ cl.Dot ∷ cl.Arrow ∷ cl.PlusPlus ∷ cl.MinusMinus ∷ cl.Ampersand ∷ cl.Star ∷ cl.StarBracket ∷ cl.Plus ∷ cl.Minus ∷ cl.Tilde ∷ cl.Bang ∷ cl.Slash ∷ cl.Percent ∷ cl.ShiftLeft ∷ cl.ShiftRight ∷ cl.Less ∷ cl.Greater ∷ cl.LessEqual ∷ cl.GreaterEqual ∷ cl.EqualEqual ∷ cl.BangEqual ∷ cl.Caret ∷ cl.Bar ∷ cl.AndAnd ∷ cl.OrOr ∷ cl.Question ∷ cl.Colon ∷ cl.Semicolon ∷ cl.Ellipsis ∷ cl.Comma ∷ cl.LastComma ∷ cl.DesignationComma ∷ cl.Equal ∷ cl.StarEqual ∷ cl.SlashEqual ∷ cl.PercentEqual ∷ cl.PlusEqual ∷ cl.MinusEqual ∷ cl.ShiftLeftEqual ∷ cl.ShiftRightEqual ∷ cl.AmpersandEqual ∷ cl.CaretEqual ∷ cl.BarEqual ∷ cl.Sizeof ∷ cl.Alignof ∷ cl.Generic ∷ cl.Default ∷ cl.Case ∷ cl.If ∷ cl.Else ∷ cl.Switch ∷ cl.While ∷ cl.Do ∷ cl.For ∷ cl.Goto ∷ cl.Continue ∷ cl.Break ∷ cl.Return ∷ cl.StaticAssert ∷ cl.Typedef ∷ cl.Extern ∷ cl.Static ∷ cl.ThreadLocal ∷ cl.Auto ∷ cl.Register ∷ cl.Void ∷ cl.Char ∷ cl.Short ∷ cl.Int ∷ cl.Long ∷ cl.Float ∷ cl.Double ∷ cl.Signed ∷ cl.Unsigned ∷ cl.Bool ∷ cl.Struct ∷ cl.Union ∷ cl.Enum ∷ cl.Const ∷ cl.Restrict ∷ cl.Volatile ∷ cl.Atomic ∷ cl.AtomicParen ∷ cl.Inline ∷ cl.Noreturn ∷ cl.Alignas ∷ cl.Other ∷ []
-
-abbrev pub class_number : Class → ℕ
-class_number cl.Ident = 0
-class_number cl.IdentColon = 1
-class_number cl.TypedefName = 2
-class_number cl.TypedefColon = 3
-class_number cl.Constant = 4
-class_number cl.String = 5
-class_number cl.LeftParen = 6
-class_number cl.TypeParen = 7
-class_number cl.LiteralParen = 8
-class_number cl.RightParen = 9
-class_number cl.LeftBracket = 10
-class_number cl.RightBracket = 11
-class_number cl.LeftBrace = 12
-class_number cl.RightBrace = 13
-class_number cl.Dot = 14
-class_number cl.Arrow = 15
-class_number cl.PlusPlus = 16
-class_number cl.MinusMinus = 17
-class_number cl.Ampersand = 18
-class_number cl.Star = 19
-class_number cl.StarBracket = 20
-class_number cl.Plus = 21
-class_number cl.Minus = 22
-class_number cl.Tilde = 23
-class_number cl.Bang = 24
-class_number cl.Slash = 25
-class_number cl.Percent = 26
-class_number cl.ShiftLeft = 27
-class_number cl.ShiftRight = 28
-class_number cl.Less = 29
-class_number cl.Greater = 30
-class_number cl.LessEqual = 31
-class_number cl.GreaterEqual = 32
-class_number cl.EqualEqual = 33
-class_number cl.BangEqual = 34
-class_number cl.Caret = 35
-class_number cl.Bar = 36
-class_number cl.AndAnd = 37
-class_number cl.OrOr = 38
-class_number cl.Question = 39
-class_number cl.Colon = 40
-class_number cl.Semicolon = 41
-class_number cl.Ellipsis = 42
-class_number cl.Comma = 43
-class_number cl.LastComma = 44
-class_number cl.DesignationComma = 45
-class_number cl.Equal = 46
-class_number cl.StarEqual = 47
-class_number cl.SlashEqual = 48
-class_number cl.PercentEqual = 49
-class_number cl.PlusEqual = 50
-class_number cl.MinusEqual = 51
-class_number cl.ShiftLeftEqual = 52
-class_number cl.ShiftRightEqual = 53
-class_number cl.AmpersandEqual = 54
-class_number cl.CaretEqual = 55
-class_number cl.BarEqual = 56
-class_number cl.Sizeof = 57
-class_number cl.Alignof = 58
-class_number cl.Generic = 59
-class_number cl.Default = 60
-class_number cl.Case = 61
-class_number cl.If = 62
-class_number cl.Else = 63
-class_number cl.Switch = 64
-class_number cl.While = 65
-class_number cl.Do = 66
-class_number cl.For = 67
-class_number cl.Goto = 68
-class_number cl.Continue = 69
-class_number cl.Break = 70
-class_number cl.Return = 71
-class_number cl.StaticAssert = 72
-class_number cl.Typedef = 73
-class_number cl.Extern = 74
-class_number cl.Static = 75
-class_number cl.ThreadLocal = 76
-class_number cl.Auto = 77
-class_number cl.Register = 78
-class_number cl.Void = 79
-class_number cl.Char = 80
-class_number cl.Short = 81
-class_number cl.Int = 82
-class_number cl.Long = 83
-class_number cl.Float = 84
-class_number cl.Double = 85
-class_number cl.Signed = 86
-class_number cl.Unsigned = 87
-class_number cl.Bool = 88
-class_number cl.Struct = 89
-class_number cl.Union = 90
-class_number cl.Enum = 91
-class_number cl.Const = 92
-class_number cl.Restrict = 93
-class_number cl.Volatile = 94
-class_number cl.Atomic = 95
-class_number cl.AtomicParen = 96
-class_number cl.Inline = 97
-class_number cl.Noreturn = 98
-class_number cl.Alignas = 99
-class_number cl.Other = 100
 
 pub numbered_class : (x : Class) → slice_get all_classes (class_number x) ≡ Some x
 numbered_class cl.Ident = refl

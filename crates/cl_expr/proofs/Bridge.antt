@@ -25,7 +25,8 @@ use Rattle.cl_expr.specs.declared.table.Ways.{Ways}
 use Rattle.cl_expr.specs.code.Table.{Item, Place, places, place, nowhere, goal, goals, number, starts, edges, name_of, bars, bar_of, scoped, turn, turned, turning, is_named, home, items, kinds, shunned}
 use Rattle.cl_expr.specs.code.Paths as p
 use Rattle.cl_expr.specs.code.Paths.{name, Path, At, Whole}
-use Rattle.cl_expr.proofs.All.{all_goals, numbered_goal, all_classes, class_number, numbered_class, same_class_is, act_number, same_act_is, same_goal_is, rule_number, same_rule_is}
+use Rattle.cl_expr.specs.code.Looks.{class_number}
+use Rattle.cl_expr.proofs.All.{all_goals, numbered_goal, all_classes, numbered_class, same_class_is, act_number, same_act_is, same_goal_is, rule_number, same_rule_is}
 use Rattle.cl_expr.proofs.Checks.{every, some, when, is_some, when_use, none_is, none_not, some_is, every_has, member_has}
 use Rattle.cl_expr.proofs.Conditions.{Way, numbers, every_place, either, home_next, kind_in, place_number}
 use Rattle.cl_expr.proofs.Heights.{kind_of, of_kind, kind_flat}

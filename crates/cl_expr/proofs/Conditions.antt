@@ -18,10 +18,11 @@ use Rattle.cl_expr.specs.code.Table.{Place, places, nowhere, place, goal, goals,
 use Rattle.cl_tree.specs.Derives.{Has, barred}
 use Rattle.cl_expr.specs.code.Parses.{BeginsSymbol, Begins, Enters}
 use Rattle.cl_tree.specs.Grammar.{takes, shuns}
-use Rattle.cl_expr.proofs.All.{all_goals, numbered_goal, all_classes, numbered_class, class_number, same_class_is, same_goal_is}
+use Rattle.cl_expr.specs.code.Looks.{class_number}
+use Rattle.cl_expr.proofs.All.{all_goals, numbered_goal, all_classes, numbered_class, same_class_is, same_goal_is}
 use Rattle.cl_expr.proofs.Checks.{every, some, pairwise, member, when, is_some, on_some, when_use, not_use, some_true, none_is, none_true, none_not, on_some_use, some_is, every_has, some_at, pairwise_one, has_member, member_left, member_right, member_has, every_member}
 
-abbrev among : Class → List Class → Bool
+abbrev pub among : Class → List Class → Bool
 among k ks = member class_number k ks
 
 -- places are numbers
@@ -39,15 +40,15 @@ beginners_symbol (Token c a) = takes c
 beginners_symbol (Node g) = firsts g
 beginners_symbol Entry = entry_classes
 
-abbrev beginners : Option Separator → Symbol → List Class
+abbrev pub beginners : Option Separator → Symbol → List Class
 beginners None x = beginners_symbol x
 beginners (Some b) x = b.class ∷ []
 
-abbrev beginners_of : List Edge → List Class
+abbrev pub beginners_of : List Edge → List Class
 beginners_of [] = []
 beginners_of (e ∷ es) = beginners e.before e.symbol ++ beginners_of es
 
-abbrev entering : ℕ → List Class
+abbrev pub entering : ℕ → List Class
 entering q = beginners_of (edges q)
 
 abbrev is_else : Class → Bool
@@ -86,7 +87,7 @@ symbol_among (Token c a) k b = has_member class_number k (takes c) b.0 b.1
 symbol_among (Node g) k b = has_member class_number k (firsts g) b.0 b.1
 symbol_among Entry k b = has_member class_number k entry_classes b.0 b.1
 
-begins_among : (b : Option Separator) (s : Symbol) (k : Class) → Begins b s k → among k (beginners b s) ≡ true
+pub begins_among : (b : Option Separator) (s : Symbol) (k : Class) → Begins b s k → among k (beginners b s) ≡ true
 begins_among None s k b = symbol_among s k b
 begins_among (Some o) s k b = has_member class_number k (o.class ∷ []) 0 (ap Some b)
 
@@ -96,13 +97,13 @@ enters_of (x ∷ es) k zero e h b =
     member_left class_number k (beginners x.before x.symbol) (beginners_of es) (begins_among x.before x.symbol k (subst (λ (v : Edge). Begins v.before v.symbol k) (sym (some_is h)) b))
 enters_of (x ∷ es) k (suc i) e h b = member_right class_number k (beginners x.before x.symbol) (beginners_of es) (enters_of es k i e h b)
 
-enters_among : (q : ℕ) (k : Class) → Enters q k → among k (entering q) ≡ true
+pub enters_among : (q : ℕ) (k : Class) → Enters q k → among k (entering q) ≡ true
 enters_among q k n = enters_of (edges q) k n.1.0 n.0 n.1.1 n.2
 
-among_has : (k : Class) (ks : List Class) → among k ks ≡ true → Has ks k
+pub among_has : (k : Class) (ks : List Class) → among k ks ≡ true → Has ks k
 among_has k ks m = member_has class_number same_class_is k ks m
 
-has_among : (k : Class) (ks : List Class) → Has ks k → among k ks ≡ true
+pub has_among : (k : Class) (ks : List Class) → Has ks k → among k ks ≡ true
 has_among k ks h = has_member class_number k ks h.0 h.1
 
 apart_use : (xs ys : List Class) (k : Class) → apart xs ys ≡ true → among k xs ≡ true → among k ys ≡ true → ⊥

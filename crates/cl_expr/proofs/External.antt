@@ -24,7 +24,8 @@ use Rattle.cl_tree.specs.Derives.{Has, start, end, parts, leaf, SpansFrom, Exter
 use Rattle.cl_expr.specs.declared.table.Edge.{Edge}
 use Rattle.cl_expr.specs.code.Table.{places, place, edges, turning, turn, home, kinds, goal, goals, name_of, number}
 use Rattle.cl_expr.specs.code.Paths.{name, Ended, Reads, ReadsAfter, Path, Kind, At}
-use Rattle.cl_expr.proofs.All.{class_number, same_class_is, same_goal_is}
+use Rattle.cl_expr.specs.code.Looks.{class_number}
+use Rattle.cl_expr.proofs.All.{same_class_is, same_goal_is}
 use Rattle.cl_expr.proofs.Checks.{every, when, when_use, none_not, some_is, every_has, has_member}
 use Rattle.cl_expr.proofs.Conditions.{every_place, steps, steps_use, kind_in, place_number, no_name}
 use Rattle.cl_expr.proofs.Heights.{kind_of, kind_flat, end_leaf}

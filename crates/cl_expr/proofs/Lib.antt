@@ -11,6 +11,7 @@ mod External
 mod Growth
 mod Heights
 mod Law
+mod Numbers
 mod Reading
 mod Rows
 mod Scans

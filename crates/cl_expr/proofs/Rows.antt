@@ -6,7 +6,7 @@ use Rattle.std.proofs.lemmas.Option.{slice_get-map}
 use Rattle.cl_tree.specs.declared.nonterminal.Nonterminal.{Nonterminal}
 use Rattle.cl_expr.specs.declared.table.Row.{Row}
 use Rattle.cl_expr.specs.declared.table.GoalRow.{GoalRow}
-use Rattle.cl_expr.specs.code.Table.{Place, Goal, places, goals, place, goal, nowhere, nothing, place_of, goal_of, rows, goal_rows, first_spans, all_edges, all_kinds, all_openers, all_suffixes, all_firsts, edges, name_of, bar_of, scoped, corner, turning, is_named, kinds, openers, suffixes, firsts, shunned, number}
+use Rattle.cl_expr.specs.code.Table.{Place, Goal, places, goals, place, goal, nowhere, nothing, place_of, goal_of, rows, goal_rows, all_edges, all_kinds, all_openers, all_suffixes, edges, name_of, bar_of, scoped, corner, turning, is_named, kinds, openers, suffixes, shunned, number}
 use Rattle.std.proofs.Math.Dec.{eqb}
 use Rattle.std.proofs.lemmas.Bool.{eqb-true, and_parts}
 use Rattle.cl_expr.proofs.Checks.{every, every_at, some_is, none_not}
@@ -143,11 +143,11 @@ unfolding edges
 none_edges q e = ap (λ (p : Place). p.edges) (missing q e)
 
 goal_kinds : map (λ (r : GoalRow). slice_range all_kinds r.kinds.from r.kinds.to) goal_rows ≡ map (λ (p : Goal). p.kinds) goals
-unfolding goal_rows goals first_spans all_kinds
+unfolding goal_rows goals all_kinds
 goal_kinds = refl
 
 kinds_lie_all : every (λ (r : GoalRow). lies r.kinds.from r.kinds.to (length all_kinds)) goal_rows ≡ true
-unfolding goal_rows goals first_spans all_kinds
+unfolding goal_rows goals all_kinds
 kinds_lie_all = refl
 
 pub kinds_are : (g : Nonterminal) (r : GoalRow) → slice_get goal_rows (number g) ≡ Some r → slice_range all_kinds r.kinds.from r.kinds.to ≡ kinds g
@@ -164,11 +164,11 @@ none_kinds g e = ap (λ (p : Goal). p.kinds) (none_goal (λ (p : Goal). p.kinds)
     (ap (option_map (λ (r : GoalRow). slice_range all_kinds r.kinds.from r.kinds.to)) (sym e) ∙ fields goal_rows goals (λ (r : GoalRow). slice_range all_kinds r.kinds.from r.kinds.to) (λ (p : Goal). p.kinds) goal_kinds (number g)))
 
 goal_openers : map (λ (r : GoalRow). slice_range all_openers r.openers.from r.openers.to) goal_rows ≡ map (λ (p : Goal). p.openers) goals
-unfolding goal_rows goals first_spans all_openers
+unfolding goal_rows goals all_openers
 goal_openers = refl
 
 openers_lie_all : every (λ (r : GoalRow). lies r.openers.from r.openers.to (length all_openers)) goal_rows ≡ true
-unfolding goal_rows goals first_spans all_openers
+unfolding goal_rows goals all_openers
 openers_lie_all = refl
 
 pub openers_are : (g : Nonterminal) (r : GoalRow) → slice_get goal_rows (number g) ≡ Some r → slice_range all_openers r.openers.from r.openers.to ≡ openers g
@@ -185,11 +185,11 @@ none_openers g e = ap (λ (p : Goal). p.openers) (none_goal (λ (p : Goal). p.op
     (ap (option_map (λ (r : GoalRow). slice_range all_openers r.openers.from r.openers.to)) (sym e) ∙ fields goal_rows goals (λ (r : GoalRow). slice_range all_openers r.openers.from r.openers.to) (λ (p : Goal). p.openers) goal_openers (number g)))
 
 goal_suffixes : map (λ (r : GoalRow). slice_range all_suffixes r.suffixes.from r.suffixes.to) goal_rows ≡ map (λ (p : Goal). p.suffixes) goals
-unfolding goal_rows goals first_spans all_suffixes
+unfolding goal_rows goals all_suffixes
 goal_suffixes = refl
 
 suffixes_lie_all : every (λ (r : GoalRow). lies r.suffixes.from r.suffixes.to (length all_suffixes)) goal_rows ≡ true
-unfolding goal_rows goals first_spans all_suffixes
+unfolding goal_rows goals all_suffixes
 suffixes_lie_all = refl
 
 pub suffixes_are : (g : Nonterminal) (r : GoalRow) → slice_get goal_rows (number g) ≡ Some r → slice_range all_suffixes r.suffixes.from r.suffixes.to ≡ suffixes g
@@ -205,29 +205,8 @@ unfolding suffixes goal
 none_suffixes g e = ap (λ (p : Goal). p.suffixes) (none_goal (λ (p : Goal). p.suffixes) (slice_get goals (number g))
     (ap (option_map (λ (r : GoalRow). slice_range all_suffixes r.suffixes.from r.suffixes.to)) (sym e) ∙ fields goal_rows goals (λ (r : GoalRow). slice_range all_suffixes r.suffixes.from r.suffixes.to) (λ (p : Goal). p.suffixes) goal_suffixes (number g)))
 
-goal_firsts : map (λ (r : GoalRow). slice_range all_firsts r.firsts.from r.firsts.to) goal_rows ≡ map (λ (p : Goal). p.firsts) goals
-unfolding goal_rows goals first_spans all_firsts
-goal_firsts = refl
-
-firsts_lie_all : every (λ (r : GoalRow). lies r.firsts.from r.firsts.to (length all_firsts)) goal_rows ≡ true
-unfolding goal_rows goals first_spans all_firsts
-firsts_lie_all = refl
-
-pub firsts_are : (g : Nonterminal) (r : GoalRow) → slice_get goal_rows (number g) ≡ Some r → slice_range all_firsts r.firsts.from r.firsts.to ≡ firsts g
-unfolding firsts goal
-firsts_are g r e = some_goal (λ (p : Goal). p.firsts) (slice_get goals (number g)) (slice_range all_firsts r.firsts.from r.firsts.to)
-    (ap (option_map (λ (r : GoalRow). slice_range all_firsts r.firsts.from r.firsts.to)) (sym e) ∙ fields goal_rows goals (λ (r : GoalRow). slice_range all_firsts r.firsts.from r.firsts.to) (λ (p : Goal). p.firsts) goal_firsts (number g))
-
-pub firsts_lie : (g : Nonterminal) (r : GoalRow) → slice_get goal_rows (number g) ≡ Some r → (r.firsts.from ≤ r.firsts.to) × (r.firsts.to ≤ length all_firsts)
-firsts_lie g r e = lies_use r.firsts.from r.firsts.to (length all_firsts) (every_at (λ (r : GoalRow). lies r.firsts.from r.firsts.to (length all_firsts)) goal_rows firsts_lie_all (number g) r e)
-
-pub none_firsts : (g : Nonterminal) → slice_get goal_rows (number g) ≡ None → firsts g ≡ []
-unfolding firsts goal
-none_firsts g e = ap (λ (p : Goal). p.firsts) (none_goal (λ (p : Goal). p.firsts) (slice_get goals (number g))
-    (ap (option_map (λ (r : GoalRow). slice_range all_firsts r.firsts.from r.firsts.to)) (sym e) ∙ fields goal_rows goals (λ (r : GoalRow). slice_range all_firsts r.firsts.from r.firsts.to) (λ (p : Goal). p.firsts) goal_firsts (number g)))
-
 goal_shuns : map (λ (r : GoalRow). r.shuns) goal_rows ≡ map (λ (p : Goal). p.shuns) goals
-unfolding goal_rows goals first_spans
+unfolding goal_rows goals
 goal_shuns = refl
 
 pub shunned_is : (g : Nonterminal) (r : GoalRow) → slice_get goal_rows (number g) ≡ Some r → r.shuns ≡ shunned g

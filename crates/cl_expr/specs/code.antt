@@ -1,3 +1,4 @@
+pub mod Looks
 pub mod Parses
 pub mod Paths
 pub mod Table

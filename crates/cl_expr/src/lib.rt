@@ -3,8 +3,9 @@
 
 mod edge_rows;
 mod expression;
-mod first_rows;
 mod goal_rows;
+mod look_rows;
+mod looks;
 mod place_rows;
 mod places;
 mod reader;

@@ -5,11 +5,10 @@ ghost use Rattle.cl_tree.specs.Grammar as g;
 ghost use Rattle.cl_expr.specs.code.Table as t;
 
 use crate::edge_rows::all_edges;
-use crate::first_rows::all_firsts;
 use crate::goal_rows::{all_kinds, all_openers, all_suffixes, goal_rows};
 use crate::place_rows::rows;
 use crate::table::{Edge, GoalRow, Head, Label, Row, Ways};
-use cl_tree::{Class, Nonterminal, Terminal};
+use cl_tree::{Nonterminal, Terminal};
 
 fn row_at(place: u16) -> Option<Row>
     ensures { result ≡ slice_get t.rows place }
@@ -140,16 +139,6 @@ pub fn suffixes(goal: Nonterminal) -> &'static [u16]
 {
     match goal_at(goal) {
         Some(row) => &all_suffixes()[row.suffixes.from as usize..row.suffixes.to as usize],
-        None => &[],
-    }
-}
-
-/// The classes of tokens that begin a nonterminal.
-pub fn firsts(goal: Nonterminal) -> &'static [Class]
-    ensures { result.now ≡ t.firsts goal }
-{
-    match goal_at(goal) {
-        Some(row) => &all_firsts()[row.firsts.from as usize..row.firsts.to as usize],
         None => &[],
     }
 }

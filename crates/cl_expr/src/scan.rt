@@ -8,11 +8,12 @@ ghost use Rattle.cl_tree.specs.Derives.{Has};
 ghost use Rattle.cl_tree.specs.declared.class.Class.{Class};
 ghost use Rattle.cl_tree.specs.declared.class.Class.TheVariants as cl;
 ghost use Rattle.cl_expr.specs.code.Table as t;
-ghost use Rattle.cl_expr.specs.code.Parses.{Begins, BeginsSymbol, Enters, GoesOn};
+ghost use Rattle.cl_expr.specs.code.Parses.{Begins, Enters, GoesOn, GoesWith};
 
-use crate::places::{corner, edges, firsts, kinds, openers, shuns, suffixes};
+use crate::looks::{edge_number, opener_number, suffix_number};
+use crate::places::{corner, edges, kinds, openers, shuns, suffixes};
 use crate::table::Edge;
-use cl_tree::{Class, Lexeme, Nonterminal, Scope, Symbol, Terminal, class_at};
+use cl_tree::{Class, Lexeme, Nonterminal, Scope, Terminal, class_at};
 
 /// Whether two classes are one.
 pub fn same_class(a: Class, b: Class) -> bool
@@ -104,51 +105,16 @@ pub fn is_shunned(tokens: &[Lexeme], scope: &Scope, goal: Nonterminal, at: u32) 
     }
 }
 
-/// Whether tokens of a class begin an item of a block or what is none: all but `}`.
-fn begins_entry(class: Class) -> bool
-    ensures yes { result ≡ true → Has t.entry_classes class }
-    ensures no { result ≡ false → Has t.entry_classes class → ⊥ }
-{
-    let brace = same_class(class, Class::RightBrace);
-    !brace
-}
-
-/// Whether tokens of a class begin what a symbol stands for.
-fn begins_symbol(symbol: Symbol, class: Class) -> bool
-    ensures yes { result ≡ true → BeginsSymbol symbol class }
-    ensures no { result ≡ false → BeginsSymbol symbol class → ⊥ }
-{
-    match symbol {
-        Symbol::Token(terminal, _) => taken(terminal, class),
-        Symbol::Node(goal) => has_class(firsts(goal), class),
-        Symbol::Entry => begins_entry(class),
-    }
-}
-
-/// Whether tokens of a class begin what stands at an edge.
-pub fn begins(edge: Edge, class: Class) -> bool
-    ensures yes { result ≡ true → Begins edge.before edge.symbol class }
-    ensures no { result ≡ false → Begins edge.before edge.symbol class → ⊥ }
-{
-    match edge.before {
-        Some(separator) => same_class(separator.class, class),
-        None => begins_symbol(edge.symbol, class),
-    }
-}
-
 /// What a token begins at a place.
 pub fn look(place: u16, class: Class) -> Option<Edge>
     ensures some { IfSome result (λ e. Has (t.edges place) e × Begins e.before e.symbol class) }
     ensures none { result ≡ None → Enters place class → ⊥ }
 {
-    let all = edges(place);
-    for edge in all {
-        let fits = begins(*edge, class);
-        if fits {
-            return Some(*edge);
-        }
+    let number = edge_number(place, class);
+    if number == 0 {
+        return None;
     }
-    None
+    edges(place).get(number as usize - 1).copied()
 }
 
 /// Whether a token begins something at a place.
@@ -156,7 +122,7 @@ pub fn enters(place: u16, class: Class) -> bool
     ensures yes { result ≡ true → Enters place class }
     ensures no { result ≡ false → Enters place class → ⊥ }
 {
-    look(place, class).is_some()
+    edge_number(place, class) != 0
 }
 
 /// The place at the left end of a nonterminal where a token begins something.
@@ -164,9 +130,36 @@ pub fn opening(goal: Nonterminal, class: Class) -> Option<u16>
     ensures some { IfSome result (λ s. Has (t.openers goal) s × Enters s class) }
     ensures none { result ≡ None → (s : ℕ) → Has (t.openers goal) s → Enters s class → ⊥ }
 {
-    let all = openers(goal);
+    let number = opener_number(goal, class);
+    if number == 0 {
+        return None;
+    }
+    openers(goal).get(number as usize - 1).copied()
+}
+
+/// Whether a production whose first part is of a kind goes on with a token.
+fn goes_on(start: u16, kind: u16, class: Class) -> bool
+    ensures yes { result ≡ true → GoesWith start kind class }
+    ensures no { result ≡ false → GoesWith start kind class → ⊥ }
+{
+    let Some(cornered) = corner(start) else {
+        return false;
+    };
+    let enters = enters(cornered.next, class);
+    if !enters {
+        return false;
+    }
+    has_place(kinds(cornered.goal), kind)
+}
+
+/// The production that goes on with a token from a part.
+fn goer(goal: Nonterminal, kind: u16, class: Class) -> Option<u16>
+    ensures some { IfSome result (λ s. Has (t.suffixes goal) s × GoesWith s kind class) }
+    ensures none { result ≡ None → (s : ℕ) → Has (t.suffixes goal) s → GoesWith s kind class → ⊥ }
+{
+    let all = suffixes(goal);
     for start in all {
-        let fits = enters(*start, class);
+        let fits = goes_on(*start, kind, class);
         if fits {
             return Some(*start);
         }
@@ -174,22 +167,16 @@ pub fn opening(goal: Nonterminal, class: Class) -> Option<u16>
     None
 }
 
-/// Whether a production whose first part is of a kind goes on.
-pub fn goes_on(tokens: &[Lexeme], scope: &Scope, start: u16, kind: u16, at: u32) -> bool
-    ensures yes { result ≡ true → GoesOn tokens.now scope.now start kind at }
-    ensures no { result ≡ false → GoesOn tokens.now scope.now start kind at → ⊥ }
+/// The same, where most tokens go on from nothing.
+fn goer_soon(goal: Nonterminal, kind: u16, class: Class) -> Option<u16>
+    ensures some { IfSome result (λ s. Has (t.suffixes goal) s × GoesWith s kind class) }
+    ensures none { result ≡ None → (s : ℕ) → Has (t.suffixes goal) s → GoesWith s kind class → ⊥ }
 {
-    let Some(cornered) = corner(start) else {
-        return false;
-    };
-    let takes = has_place(kinds(cornered.goal), kind);
-    if !takes {
-        return false;
+    let number = suffix_number(goal, class);
+    if number == 0 {
+        return None;
     }
-    match class_at(tokens, scope, at) {
-        Some(class) => enters(cornered.next, class),
-        None => false,
-    }
+    goer(goal, kind, class)
 }
 
 /// The production that goes on from a part.
@@ -197,12 +184,8 @@ pub fn going(tokens: &[Lexeme], scope: &Scope, goal: Nonterminal, kind: u16, at:
     ensures some { IfSome result (λ s. Has (t.suffixes goal) s × GoesOn tokens.now scope.now s kind at) }
     ensures none { result ≡ None → (s : ℕ) → Has (t.suffixes goal) s → GoesOn tokens.now scope.now s kind at → ⊥ }
 {
-    let all = suffixes(goal);
-    for start in all {
-        let fits = goes_on(tokens, scope, *start, kind, at);
-        if fits {
-            return Some(*start);
-        }
-    }
-    None
+    let Some(class) = class_at(tokens, scope, at) else {
+        return None;
+    };
+    goer_soon(goal, kind, class)
 }

@@ -47,13 +47,12 @@ pub struct Row {
     pub named: bool,
 }
 
-/// A nonterminal: the places where its trees end, those at its left end and those that go on from there, the classes of
-/// tokens that begin it, as ranges, and those that may not.
+/// A nonterminal: the places where its trees end, those at its left end and those that go on from there, as ranges, and the
+/// tokens that may not begin it.
 #[derive(Clone, Copy)]
 pub struct GoalRow {
     pub kinds: Span,
     pub openers: Span,
     pub suffixes: Span,
-    pub firsts: Span,
     pub shuns: Option<Terminal>,
 }

@@ -131,6 +131,13 @@ pub record Opens (cs : List Lexeme) (h : ℕ) (s : Scope) (g : Nonterminal) (at 
   pub found : IfSome r (λ f. Sound cs (suc h) s f × (start f.tree ≡ at))
   pub only : (t : Tree) (z : ℕ) (w : Scope) → Kind cs (suc h) z s t w → Has (openers g) (home z) → start t ≡ at → Halts cs w (home z) (end t) → Gives r t z w
 
+-- a production whose first part is a tree of a kind goes on with a token
+pub record GoesWith (s : ℕ) (y : ℕ) (k : Class) : Type 0 where
+  pub cornered : Head
+  pub is : corner s ≡ Some cornered
+  pub takes : Has (kinds cornered.goal) y
+  pub enters : Enters cornered.next k
+
 -- a production whose first part is a tree of a kind goes on there
 pub record GoesOn (cs : List Lexeme) (w : Scope) (s : ℕ) (y : ℕ) (at : ℕ) : Type 0 where
   pub cornered : Head

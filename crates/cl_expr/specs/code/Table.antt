@@ -1518,162 +1518,6 @@ all_openers = flat_map (λ g. g.openers) goals
 unfoldable pub all_suffixes : List ℕ
 all_suffixes = flat_map (λ g. g.suffixes) goals
 
-unfoldable pub all_firsts : List Class
-all_firsts =
-    cl.Ident ∷ cl.IdentColon ∷ cl.TypedefName ∷ cl.TypedefColon ∷ cl.Constant ∷ cl.String ∷ cl.LeftParen ∷ cl.Generic ∷
-    cl.Generic ∷
-    cl.TypedefName ∷ cl.TypedefColon ∷ cl.Default ∷ cl.Void ∷ cl.Char ∷ cl.Short ∷ cl.Int ∷ cl.Long ∷ cl.Float ∷ cl.Double ∷ cl.Signed ∷ cl.Unsigned ∷ cl.Bool ∷ cl.Struct ∷ cl.Union ∷ cl.Enum ∷ cl.Const ∷ cl.Restrict ∷ cl.Volatile ∷ cl.Atomic ∷ cl.AtomicParen ∷
-    cl.Ident ∷ cl.IdentColon ∷ cl.TypedefName ∷ cl.TypedefColon ∷ cl.Constant ∷ cl.String ∷ cl.LeftParen ∷ cl.LiteralParen ∷ cl.Generic ∷
-    cl.Ident ∷ cl.IdentColon ∷ cl.TypedefName ∷ cl.TypedefColon ∷ cl.Constant ∷ cl.String ∷ cl.LeftParen ∷ cl.TypeParen ∷ cl.LiteralParen ∷ cl.PlusPlus ∷ cl.MinusMinus ∷ cl.Ampersand ∷ cl.Star ∷ cl.Plus ∷ cl.Minus ∷ cl.Tilde ∷ cl.Bang ∷ cl.Sizeof ∷ cl.Alignof ∷ cl.Generic ∷
-    cl.Ident ∷ cl.IdentColon ∷ cl.TypedefName ∷ cl.TypedefColon ∷ cl.Constant ∷ cl.String ∷ cl.LeftParen ∷ cl.LiteralParen ∷ cl.PlusPlus ∷ cl.MinusMinus ∷ cl.Ampersand ∷ cl.Star ∷ cl.Plus ∷ cl.Minus ∷ cl.Tilde ∷ cl.Bang ∷ cl.Sizeof ∷ cl.Alignof ∷ cl.Generic ∷
-    cl.Ampersand ∷ cl.Star ∷ cl.Plus ∷ cl.Minus ∷ cl.Tilde ∷ cl.Bang ∷
-    cl.Equal ∷ cl.StarEqual ∷ cl.SlashEqual ∷ cl.PercentEqual ∷ cl.PlusEqual ∷ cl.MinusEqual ∷ cl.ShiftLeftEqual ∷ cl.ShiftRightEqual ∷ cl.AmpersandEqual ∷ cl.CaretEqual ∷ cl.BarEqual ∷
-    cl.TypedefName ∷ cl.TypedefColon ∷ cl.StaticAssert ∷ cl.Typedef ∷ cl.Extern ∷ cl.Static ∷ cl.ThreadLocal ∷ cl.Auto ∷ cl.Register ∷ cl.Void ∷ cl.Char ∷ cl.Short ∷ cl.Int ∷ cl.Long ∷ cl.Float ∷ cl.Double ∷ cl.Signed ∷ cl.Unsigned ∷ cl.Bool ∷ cl.Struct ∷ cl.Union ∷ cl.Enum ∷ cl.Const ∷ cl.Restrict ∷ cl.Volatile ∷ cl.Atomic ∷ cl.AtomicParen ∷ cl.Inline ∷ cl.Noreturn ∷ cl.Alignas ∷
-    cl.TypedefName ∷ cl.TypedefColon ∷ cl.Typedef ∷ cl.Extern ∷ cl.Static ∷ cl.ThreadLocal ∷ cl.Auto ∷ cl.Register ∷ cl.Void ∷ cl.Char ∷ cl.Short ∷ cl.Int ∷ cl.Long ∷ cl.Float ∷ cl.Double ∷ cl.Signed ∷ cl.Unsigned ∷ cl.Bool ∷ cl.Struct ∷ cl.Union ∷ cl.Enum ∷ cl.Const ∷ cl.Restrict ∷ cl.Volatile ∷ cl.Atomic ∷ cl.AtomicParen ∷ cl.Inline ∷ cl.Noreturn ∷ cl.Alignas ∷
-    cl.Ident ∷ cl.IdentColon ∷ cl.TypedefName ∷ cl.TypedefColon ∷ cl.LeftParen ∷ cl.TypeParen ∷ cl.LiteralParen ∷ cl.Star ∷
-    cl.Typedef ∷ cl.Extern ∷ cl.Static ∷ cl.ThreadLocal ∷ cl.Auto ∷ cl.Register ∷
-    cl.TypedefName ∷ cl.TypedefColon ∷ cl.Void ∷ cl.Char ∷ cl.Short ∷ cl.Int ∷ cl.Long ∷ cl.Float ∷ cl.Double ∷ cl.Signed ∷ cl.Unsigned ∷ cl.Bool ∷ cl.Struct ∷ cl.Union ∷ cl.Enum ∷ cl.AtomicParen ∷
-    cl.Struct ∷ cl.Union ∷
-    cl.TypedefName ∷ cl.TypedefColon ∷ cl.StaticAssert ∷ cl.Void ∷ cl.Char ∷ cl.Short ∷ cl.Int ∷ cl.Long ∷ cl.Float ∷ cl.Double ∷ cl.Signed ∷ cl.Unsigned ∷ cl.Bool ∷ cl.Struct ∷ cl.Union ∷ cl.Enum ∷ cl.Const ∷ cl.Restrict ∷ cl.Volatile ∷ cl.Atomic ∷ cl.AtomicParen ∷
-    cl.TypedefName ∷ cl.TypedefColon ∷ cl.Void ∷ cl.Char ∷ cl.Short ∷ cl.Int ∷ cl.Long ∷ cl.Float ∷ cl.Double ∷ cl.Signed ∷ cl.Unsigned ∷ cl.Bool ∷ cl.Struct ∷ cl.Union ∷ cl.Enum ∷ cl.Const ∷ cl.Restrict ∷ cl.Volatile ∷ cl.Atomic ∷ cl.AtomicParen ∷
-    cl.Ident ∷ cl.IdentColon ∷ cl.TypedefName ∷ cl.TypedefColon ∷ cl.LeftParen ∷ cl.TypeParen ∷ cl.LiteralParen ∷ cl.Star ∷ cl.Colon ∷
-    cl.Enum ∷
-    cl.Ident ∷ cl.IdentColon ∷ cl.TypedefName ∷ cl.TypedefColon ∷
-    cl.AtomicParen ∷
-    cl.Const ∷ cl.Restrict ∷ cl.Volatile ∷ cl.Atomic ∷
-    cl.Inline ∷ cl.Noreturn ∷
-    cl.Alignas ∷
-    cl.Ident ∷ cl.IdentColon ∷ cl.TypedefName ∷ cl.TypedefColon ∷ cl.LeftParen ∷ cl.TypeParen ∷ cl.LiteralParen ∷
-    cl.Star ∷
-    cl.Ident ∷ cl.IdentColon ∷ cl.TypedefName ∷ cl.TypedefColon ∷ cl.LeftParen ∷ cl.TypeParen ∷ cl.LiteralParen ∷ cl.LeftBracket ∷ cl.Star ∷
-    cl.Ident ∷ cl.IdentColon ∷ cl.TypedefName ∷ cl.TypedefColon ∷ cl.LeftParen ∷ cl.TypeParen ∷ cl.LiteralParen ∷ cl.LeftBracket ∷
-    cl.TypedefName ∷ cl.TypedefColon ∷
-    cl.Ident ∷ cl.IdentColon ∷ cl.TypedefName ∷ cl.TypedefColon ∷ cl.Constant ∷ cl.String ∷ cl.LeftParen ∷ cl.TypeParen ∷ cl.LiteralParen ∷ cl.LeftBrace ∷ cl.PlusPlus ∷ cl.MinusMinus ∷ cl.Ampersand ∷ cl.Star ∷ cl.Plus ∷ cl.Minus ∷ cl.Tilde ∷ cl.Bang ∷ cl.Sizeof ∷ cl.Alignof ∷ cl.Generic ∷
-    cl.Ident ∷ cl.IdentColon ∷ cl.TypedefName ∷ cl.TypedefColon ∷ cl.Constant ∷ cl.String ∷ cl.LeftParen ∷ cl.TypeParen ∷ cl.LiteralParen ∷ cl.LeftBracket ∷ cl.LeftBrace ∷ cl.Dot ∷ cl.PlusPlus ∷ cl.MinusMinus ∷ cl.Ampersand ∷ cl.Star ∷ cl.Plus ∷ cl.Minus ∷ cl.Tilde ∷ cl.Bang ∷ cl.Sizeof ∷ cl.Alignof ∷ cl.Generic ∷
-    cl.LeftBracket ∷ cl.Dot ∷
-    cl.StaticAssert ∷
-    cl.Ident ∷ cl.IdentColon ∷ cl.TypedefName ∷ cl.TypedefColon ∷ cl.Constant ∷ cl.String ∷ cl.LeftParen ∷ cl.TypeParen ∷ cl.LiteralParen ∷ cl.LeftBrace ∷ cl.PlusPlus ∷ cl.MinusMinus ∷ cl.Ampersand ∷ cl.Star ∷ cl.Plus ∷ cl.Minus ∷ cl.Tilde ∷ cl.Bang ∷ cl.Semicolon ∷ cl.Sizeof ∷ cl.Alignof ∷ cl.Generic ∷ cl.Default ∷ cl.Case ∷ cl.If ∷ cl.Switch ∷ cl.While ∷ cl.Do ∷ cl.For ∷ cl.Goto ∷ cl.Continue ∷ cl.Break ∷ cl.Return ∷
-    cl.IdentColon ∷ cl.TypedefColon ∷ cl.Default ∷ cl.Case ∷
-    cl.LeftBrace ∷
-    cl.Ident ∷ cl.IdentColon ∷ cl.TypedefName ∷ cl.TypedefColon ∷ cl.Constant ∷ cl.String ∷ cl.LeftParen ∷ cl.TypeParen ∷ cl.LiteralParen ∷ cl.RightParen ∷ cl.LeftBracket ∷ cl.RightBracket ∷ cl.LeftBrace ∷ cl.Dot ∷ cl.Arrow ∷ cl.PlusPlus ∷ cl.MinusMinus ∷ cl.Ampersand ∷ cl.Star ∷ cl.StarBracket ∷ cl.Plus ∷ cl.Minus ∷ cl.Tilde ∷ cl.Bang ∷ cl.Slash ∷ cl.Percent ∷ cl.ShiftLeft ∷ cl.ShiftRight ∷ cl.Less ∷ cl.Greater ∷ cl.LessEqual ∷ cl.GreaterEqual ∷ cl.EqualEqual ∷ cl.BangEqual ∷ cl.Caret ∷ cl.Bar ∷ cl.AndAnd ∷ cl.OrOr ∷ cl.Question ∷ cl.Colon ∷ cl.Semicolon ∷ cl.Ellipsis ∷ cl.Comma ∷ cl.LastComma ∷ cl.DesignationComma ∷ cl.Equal ∷ cl.StarEqual ∷ cl.SlashEqual ∷ cl.PercentEqual ∷ cl.PlusEqual ∷ cl.MinusEqual ∷ cl.ShiftLeftEqual ∷ cl.ShiftRightEqual ∷ cl.AmpersandEqual ∷ cl.CaretEqual ∷ cl.BarEqual ∷ cl.Sizeof ∷ cl.Alignof ∷ cl.Generic ∷ cl.Default ∷ cl.Case ∷ cl.If ∷ cl.Else ∷ cl.Switch ∷ cl.While ∷ cl.Do ∷ cl.For ∷ cl.Goto ∷ cl.Continue ∷ cl.Break ∷ cl.Return ∷ cl.StaticAssert ∷ cl.Typedef ∷ cl.Extern ∷ cl.Static ∷ cl.ThreadLocal ∷ cl.Auto ∷ cl.Register ∷ cl.Void ∷ cl.Char ∷ cl.Short ∷ cl.Int ∷ cl.Long ∷ cl.Float ∷ cl.Double ∷ cl.Signed ∷ cl.Unsigned ∷ cl.Bool ∷ cl.Struct ∷ cl.Union ∷ cl.Enum ∷ cl.Const ∷ cl.Restrict ∷ cl.Volatile ∷ cl.Atomic ∷ cl.AtomicParen ∷ cl.Inline ∷ cl.Noreturn ∷ cl.Alignas ∷ cl.Other ∷
-    cl.Ident ∷ cl.IdentColon ∷ cl.TypedefName ∷ cl.TypedefColon ∷ cl.Constant ∷ cl.String ∷ cl.LeftParen ∷ cl.TypeParen ∷ cl.LiteralParen ∷ cl.LeftBrace ∷ cl.PlusPlus ∷ cl.MinusMinus ∷ cl.Ampersand ∷ cl.Star ∷ cl.Plus ∷ cl.Minus ∷ cl.Tilde ∷ cl.Bang ∷ cl.Semicolon ∷ cl.Sizeof ∷ cl.Alignof ∷ cl.Generic ∷ cl.Default ∷ cl.Case ∷ cl.If ∷ cl.Switch ∷ cl.While ∷ cl.Do ∷ cl.For ∷ cl.Goto ∷ cl.Continue ∷ cl.Break ∷ cl.Return ∷ cl.StaticAssert ∷ cl.Typedef ∷ cl.Extern ∷ cl.Static ∷ cl.ThreadLocal ∷ cl.Auto ∷ cl.Register ∷ cl.Void ∷ cl.Char ∷ cl.Short ∷ cl.Int ∷ cl.Long ∷ cl.Float ∷ cl.Double ∷ cl.Signed ∷ cl.Unsigned ∷ cl.Bool ∷ cl.Struct ∷ cl.Union ∷ cl.Enum ∷ cl.Const ∷ cl.Restrict ∷ cl.Volatile ∷ cl.Atomic ∷ cl.AtomicParen ∷ cl.Inline ∷ cl.Noreturn ∷ cl.Alignas ∷
-    cl.Ident ∷ cl.TypedefName ∷ cl.Constant ∷ cl.String ∷ cl.LeftParen ∷ cl.TypeParen ∷ cl.LiteralParen ∷ cl.PlusPlus ∷ cl.MinusMinus ∷ cl.Ampersand ∷ cl.Star ∷ cl.Plus ∷ cl.Minus ∷ cl.Tilde ∷ cl.Bang ∷ cl.Semicolon ∷ cl.Sizeof ∷ cl.Alignof ∷ cl.Generic ∷
-    cl.If ∷ cl.Switch ∷
-    cl.While ∷ cl.Do ∷ cl.For ∷
-    cl.Goto ∷ cl.Continue ∷ cl.Break ∷ cl.Return ∷
-    cl.Typedef ∷ cl.Extern ∷ cl.Static ∷ cl.ThreadLocal ∷ cl.Auto ∷ cl.Register ∷ cl.Const ∷ cl.Restrict ∷ cl.Volatile ∷ cl.Atomic ∷ cl.Inline ∷ cl.Noreturn ∷ cl.Alignas ∷
-    cl.Void ∷ cl.Char ∷ cl.Short ∷ cl.Int ∷ cl.Long ∷ cl.Float ∷ cl.Double ∷ cl.Signed ∷ cl.Unsigned ∷ cl.Bool ∷ cl.Struct ∷ cl.Union ∷ cl.Enum ∷ cl.AtomicParen ∷
-    cl.Typedef ∷ cl.Extern ∷ cl.Static ∷ cl.ThreadLocal ∷ cl.Auto ∷ cl.Register ∷ cl.Void ∷ cl.Char ∷ cl.Short ∷ cl.Int ∷ cl.Long ∷ cl.Float ∷ cl.Double ∷ cl.Signed ∷ cl.Unsigned ∷ cl.Bool ∷ cl.Struct ∷ cl.Union ∷ cl.Enum ∷ cl.Const ∷ cl.Restrict ∷ cl.Volatile ∷ cl.Atomic ∷ cl.AtomicParen ∷ cl.Inline ∷ cl.Noreturn ∷ cl.Alignas ∷
-    cl.Void ∷ cl.Char ∷ cl.Short ∷ cl.Int ∷ cl.Long ∷ cl.Float ∷ cl.Double ∷ cl.Signed ∷ cl.Unsigned ∷ cl.Bool ∷ cl.Struct ∷ cl.Union ∷ cl.Enum ∷ cl.Const ∷ cl.Restrict ∷ cl.Volatile ∷ cl.Atomic ∷ cl.AtomicParen ∷
-    cl.IdentColon ∷ cl.TypedefColon ∷ cl.Default ∷ cl.Case ∷ cl.If ∷ cl.Switch ∷ cl.While ∷ cl.Do ∷ cl.For ∷
-    cl.Ident ∷ cl.TypedefName ∷ cl.Constant ∷ cl.String ∷ cl.LeftParen ∷ cl.TypeParen ∷ cl.LiteralParen ∷ cl.PlusPlus ∷ cl.MinusMinus ∷ cl.Ampersand ∷ cl.Star ∷ cl.Plus ∷ cl.Minus ∷ cl.Tilde ∷ cl.Bang ∷ cl.Sizeof ∷ cl.Alignof ∷ cl.Generic ∷
-    cl.Ident ∷ cl.Constant ∷ cl.String ∷ cl.LeftParen ∷ cl.TypeParen ∷ cl.LiteralParen ∷ cl.PlusPlus ∷ cl.MinusMinus ∷ cl.Ampersand ∷ cl.Star ∷ cl.Plus ∷ cl.Minus ∷ cl.Tilde ∷ cl.Bang ∷ cl.Sizeof ∷ cl.Alignof ∷ cl.Generic ∷
-    cl.Ident ∷ cl.IdentColon ∷ cl.TypedefColon ∷ cl.Constant ∷ cl.String ∷ cl.LeftParen ∷ cl.TypeParen ∷ cl.LiteralParen ∷ cl.LeftBrace ∷ cl.PlusPlus ∷ cl.MinusMinus ∷ cl.Ampersand ∷ cl.Star ∷ cl.Plus ∷ cl.Minus ∷ cl.Tilde ∷ cl.Bang ∷ cl.Semicolon ∷ cl.Sizeof ∷ cl.Alignof ∷ cl.Generic ∷ cl.Default ∷ cl.Case ∷ cl.If ∷ cl.Switch ∷ cl.While ∷ cl.Do ∷ cl.For ∷ cl.Goto ∷ cl.Continue ∷ cl.Break ∷ cl.Return ∷
-    cl.Ident ∷ cl.Constant ∷ cl.String ∷ cl.LeftParen ∷ cl.TypeParen ∷ cl.LiteralParen ∷ cl.PlusPlus ∷ cl.MinusMinus ∷ cl.Ampersand ∷ cl.Star ∷ cl.Plus ∷ cl.Minus ∷ cl.Tilde ∷ cl.Bang ∷ cl.Semicolon ∷ cl.Sizeof ∷ cl.Alignof ∷ cl.Generic ∷
-    cl.TypedefName ∷ cl.StaticAssert ∷ cl.Typedef ∷ cl.Extern ∷ cl.Static ∷ cl.ThreadLocal ∷ cl.Auto ∷ cl.Register ∷ cl.Void ∷ cl.Char ∷ cl.Short ∷ cl.Int ∷ cl.Long ∷ cl.Float ∷ cl.Double ∷ cl.Signed ∷ cl.Unsigned ∷ cl.Bool ∷ cl.Struct ∷ cl.Union ∷ cl.Enum ∷ cl.Const ∷ cl.Restrict ∷ cl.Volatile ∷ cl.Atomic ∷ cl.AtomicParen ∷ cl.Inline ∷ cl.Noreturn ∷ cl.Alignas ∷
-    cl.TypedefName ∷ cl.Typedef ∷ cl.Extern ∷ cl.Static ∷ cl.ThreadLocal ∷ cl.Auto ∷ cl.Register ∷ cl.Void ∷ cl.Char ∷ cl.Short ∷ cl.Int ∷ cl.Long ∷ cl.Float ∷ cl.Double ∷ cl.Signed ∷ cl.Unsigned ∷ cl.Bool ∷ cl.Struct ∷ cl.Union ∷ cl.Enum ∷ cl.Const ∷ cl.Restrict ∷ cl.Volatile ∷ cl.Atomic ∷ cl.AtomicParen ∷ cl.Inline ∷ cl.Noreturn ∷ cl.Alignas ∷
-    []
-
--- where in that list the tokens stand that begin each nonterminal
-unfoldable pub first_spans : List Span
-first_spans =
-    record { from = 0; to = 8 } ∷
-    record { from = 8; to = 9 } ∷
-    record { from = 9; to = 30 } ∷
-    record { from = 9; to = 30 } ∷
-    record { from = 30; to = 39 } ∷
-    record { from = 39; to = 59 } ∷
-    record { from = 59; to = 78 } ∷
-    record { from = 78; to = 84 } ∷
-    record { from = 39; to = 59 } ∷
-    record { from = 39; to = 59 } ∷
-    record { from = 39; to = 59 } ∷
-    record { from = 39; to = 59 } ∷
-    record { from = 39; to = 59 } ∷
-    record { from = 39; to = 59 } ∷
-    record { from = 39; to = 59 } ∷
-    record { from = 39; to = 59 } ∷
-    record { from = 39; to = 59 } ∷
-    record { from = 39; to = 59 } ∷
-    record { from = 39; to = 59 } ∷
-    record { from = 39; to = 59 } ∷
-    record { from = 39; to = 59 } ∷
-    record { from = 84; to = 95 } ∷
-    record { from = 39; to = 59 } ∷
-    record { from = 39; to = 59 } ∷
-    record { from = 95; to = 125 } ∷
-    record { from = 125; to = 154 } ∷
-    record { from = 154; to = 162 } ∷
-    record { from = 154; to = 162 } ∷
-    record { from = 162; to = 168 } ∷
-    record { from = 168; to = 184 } ∷
-    record { from = 184; to = 186 } ∷
-    record { from = 184; to = 186 } ∷
-    record { from = 186; to = 207 } ∷
-    record { from = 186; to = 207 } ∷
-    record { from = 207; to = 227 } ∷
-    record { from = 227; to = 236 } ∷
-    record { from = 227; to = 236 } ∷
-    record { from = 236; to = 237 } ∷
-    record { from = 237; to = 241 } ∷
-    record { from = 237; to = 241 } ∷
-    record { from = 241; to = 242 } ∷
-    record { from = 242; to = 246 } ∷
-    record { from = 246; to = 248 } ∷
-    record { from = 248; to = 249 } ∷
-    record { from = 154; to = 162 } ∷
-    record { from = 249; to = 256 } ∷
-    record { from = 256; to = 257 } ∷
-    record { from = 242; to = 246 } ∷
-    record { from = 125; to = 154 } ∷
-    record { from = 125; to = 154 } ∷
-    record { from = 125; to = 154 } ∷
-    record { from = 237; to = 241 } ∷
-    record { from = 207; to = 227 } ∷
-    record { from = 257; to = 266 } ∷
-    record { from = 266; to = 274 } ∷
-    record { from = 274; to = 276 } ∷
-    record { from = 276; to = 297 } ∷
-    record { from = 297; to = 320 } ∷
-    record { from = 320; to = 322 } ∷
-    record { from = 320; to = 322 } ∷
-    record { from = 320; to = 322 } ∷
-    record { from = 322; to = 323 } ∷
-    record { from = 323; to = 356 } ∷
-    record { from = 356; to = 360 } ∷
-    record { from = 360; to = 361 } ∷
-    record { from = 361; to = 461 } ∷
-    record { from = 461; to = 522 } ∷
-    record { from = 522; to = 541 } ∷
-    record { from = 541; to = 543 } ∷
-    record { from = 543; to = 546 } ∷
-    record { from = 546; to = 550 } ∷
-    record { from = 125; to = 154 } ∷
-    record { from = 550; to = 563 } ∷
-    record { from = 563; to = 577 } ∷
-    record { from = 577; to = 604 } ∷
-    record { from = 604; to = 622 } ∷
-    record { from = 257; to = 266 } ∷
-    record { from = 266; to = 274 } ∷
-    record { from = 257; to = 266 } ∷
-    record { from = 266; to = 274 } ∷
-    record { from = 323; to = 356 } ∷
-    record { from = 622; to = 631 } ∷
-    record { from = 356; to = 360 } ∷
-    record { from = 356; to = 360 } ∷
-    record { from = 541; to = 543 } ∷
-    record { from = 541; to = 543 } ∷
-    record { from = 543; to = 546 } ∷
-    record { from = 543; to = 546 } ∷
-    record { from = 631; to = 649 } ∷
-    record { from = 649; to = 666 } ∷
-    record { from = 666; to = 698 } ∷
-    record { from = 698; to = 716 } ∷
-    record { from = 716; to = 745 } ∷
-    record { from = 745; to = 773 } ∷
-    record { from = 360; to = 361 } ∷
-    []
-
 abbrev rows_from : ℕ → List Place → List Row
 rows_from n [] = []
 rows_from n (p ∷ ps) = record { first = n; last = n + length p.edges; label = p.label; bar = p.bar; scoped = p.scoped; corner = p.corner; turning = p.turning; named = p.named } ∷ rows_from (n + length p.edges) ps
@@ -1681,15 +1525,14 @@ rows_from n (p ∷ ps) = record { first = n; last = n + length p.edges; label = 
 abbrev span : ℕ → ℕ → Span
 span n k = record { from = n; to = n + k }
 
-abbrev goal_rows_from : ℕ → ℕ → ℕ → List Span → List Goal → List GoalRow
-goal_rows_from a b c spans [] = []
-goal_rows_from a b c [] (g ∷ gs) = []
-goal_rows_from a b c (s ∷ spans) (g ∷ gs) =
-    record { kinds = span a (length g.kinds); openers = span b (length g.openers); suffixes = span c (length g.suffixes); firsts = s; shuns = g.shuns }
-    ∷ goal_rows_from (a + length g.kinds) (b + length g.openers) (c + length g.suffixes) spans gs
+abbrev goal_rows_from : ℕ → ℕ → ℕ → List Goal → List GoalRow
+goal_rows_from a b c [] = []
+goal_rows_from a b c (g ∷ gs) =
+    record { kinds = span a (length g.kinds); openers = span b (length g.openers); suffixes = span c (length g.suffixes); shuns = g.shuns }
+    ∷ goal_rows_from (a + length g.kinds) (b + length g.openers) (c + length g.suffixes) gs
 
 unfoldable pub rows : List Row
 rows = rows_from 0 places
 
 unfoldable pub goal_rows : List GoalRow
-goal_rows = goal_rows_from 0 0 0 first_spans goals
+goal_rows = goal_rows_from 0 0 0 goals
