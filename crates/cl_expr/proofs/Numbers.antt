@@ -69,7 +69,9 @@ on_list_use k (Some ks) t = (ks, refl, t)
 
 names_use : (n : ℕ) (k : Class) (kss : List (List Class)) → names n k kss ≡ true → (n ≡ 0 → ⊥) → (ks : List Class) × (slice_get kss (n - 1) ≡ Some ks) × (among k ks ≡ true)
 names_use zero k kss t some = absurd (some refl)
-names_use (suc n) k kss t some = on_list_use k (slice_get kss n) t
+names_use (suc n) k kss t some =
+    let same : n ≡ suc n - 1 = omega arith in
+    subst (λ (m : ℕ). (ks : List Class) × (slice_get kss m ≡ Some ks) × (among k ks ≡ true)) same (on_list_use k (slice_get kss n) t)
 
 right_use : (kss : List (List Class)) (row : List ℕ) (k : Class) → right kss row ≡ true → Right kss k (in_row row k)
 right_use kss row k t = record {
@@ -241,14 +243,20 @@ module _ (cs : List Lexeme) (w : Scope) (s y at : ℕ) where
   pub on_past : class_at cs w at ≡ None → GoesOn cs w s y at → ⊥
   on_past e g = none_not (sym e ∙ g.token)
 
--- of what comes from a list at a number
-module _ {X : Type 0} (o : Option X) (P : X → Type 0) (it : (x : X) × (o ≡ Some x) × P x) where
-  pub there_some : IfSome o P
-  there_some = go o refl
-    where
-      go : (v : Option X) → o ≡ v → IfSome v P
-      go None e = absurd (none_not (sym e ∙ it.1))
-      go (Some x) e = subst P (some_is (sym it.1 ∙ e)) it.2
+-- what goes on with the token there goes on
+pub with_on_some : (cs : List Lexeme) (w : Scope) (y at : ℕ) (g : Nonterminal) (k : Class) → class_at cs w at ≡ Some k → (o : Option ℕ)
+    → IfSome o (λ s. Has (suffixes g) s × GoesWith s y k) → IfSome o (λ s. Has (suffixes g) s × GoesOn cs w s y at)
+with_on_some cs w y at g k e None i = i
+with_on_some cs w y at g k e (Some s) i = (i.0, with_on cs w s y at k e i.1)
 
-  pub there_not_none : o ≡ None → ⊥
-  there_not_none e = none_not (sym e ∙ it.1)
+-- what comes from a list at a number
+module _ {X : Type 0} (xs : List X) (P : X → Type 0) (n m : ℕ) (same : n ≡ m) (o : Option X) (there : o ≡ slice_get xs (n - 1))
+    (it : (x : X) × (slice_get xs (m - 1) ≡ Some x) × P x) where
+  at_is : o ≡ Some it.0
+  at_is = there ∙ ap (λ (v : ℕ). slice_get xs (v - 1)) same ∙ it.1
+
+  pub at_some : IfSome o (λ x. Has xs x × P x)
+  at_some = subst (λ (v : Option X). IfSome v (λ x. Has xs x × P x)) (sym at_is) ((m - 1, it.1), it.2)
+
+  pub at_not_none : o ≡ None → ⊥
+  at_not_none e = none_not (sym e ∙ at_is)

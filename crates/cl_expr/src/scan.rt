@@ -1,6 +1,6 @@
 //! Looking into the tables.
 
-ghost use Rattle.std.specs.Prelude.{◌≡◌, ◌<◌, Some, None, true, false, IfSome, length, slice_get, ℕ};
+ghost use Rattle.std.specs.Prelude.{◌≡◌, ◌<◌, ◌-◌, Some, None, true, false, IfSome, length, slice_get, ℕ};
 ghost use Rattle.cl_tree.specs.Scopes as n;
 ghost use Rattle.cl_tree.specs.Grammar.{takes};
 ghost use Rattle.cl_tree.specs.Derives as d;
@@ -105,6 +105,22 @@ pub fn is_shunned(tokens: &[Lexeme], scope: &Scope, goal: Nonterminal, at: u32) 
     }
 }
 
+/// An edge of a place, by its number from 1.
+fn edge_at(place: u16, number: u8) -> Option<Edge>
+    requires { 0 < number }
+    ensures { result ≡ slice_get (t.edges place) (number - 1) }
+{
+    edges(place).get(number as usize - 1).copied()
+}
+
+/// A place at the left end of a nonterminal, by its number from 1.
+fn opener_at(goal: Nonterminal, number: u8) -> Option<u16>
+    requires { 0 < number }
+    ensures { result ≡ slice_get (t.openers goal) (number - 1) }
+{
+    openers(goal).get(number as usize - 1).copied()
+}
+
 /// What a token begins at a place.
 pub fn look(place: u16, class: Class) -> Option<Edge>
     ensures some { IfSome result (λ e. Has (t.edges place) e × Begins e.before e.symbol class) }
@@ -114,7 +130,7 @@ pub fn look(place: u16, class: Class) -> Option<Edge>
     if number == 0 {
         return None;
     }
-    edges(place).get(number as usize - 1).copied()
+    edge_at(place, number)
 }
 
 /// Whether a token begins something at a place.
@@ -122,7 +138,8 @@ pub fn enters(place: u16, class: Class) -> bool
     ensures yes { result ≡ true → Enters place class }
     ensures no { result ≡ false → Enters place class → ⊥ }
 {
-    edge_number(place, class) != 0
+    let number = edge_number(place, class);
+    number != 0
 }
 
 /// The place at the left end of a nonterminal where a token begins something.
@@ -134,7 +151,7 @@ pub fn opening(goal: Nonterminal, class: Class) -> Option<u16>
     if number == 0 {
         return None;
     }
-    openers(goal).get(number as usize - 1).copied()
+    opener_at(goal, number)
 }
 
 /// Whether a production whose first part is of a kind goes on with a token.
