@@ -93,7 +93,7 @@ K = {}
 def kinds(g):
     if g not in K:
         K[g] = []
-        for z in own[g] + [z for u in UNITS.get(g, []) for z in kinds(u)]:
+        for z in [z for u in UNITS.get(g, []) for z in kinds(u)] + own[g]:
             if z not in K[g]: K[g].append(z)
     return K[g]
 for g in GOALS: kinds(g)

@@ -1106,7 +1106,7 @@ places =
 unfoldable pub goals : List Goal
 goals =
     -- PrimaryExpression
-    record { kinds = (2 ∷ 3 ∷ 4 ∷ 7 ∷ 14 ∷ []); openers = (1 ∷ 8 ∷ []); suffixes = []; firsts = (cl.Ident ∷ cl.IdentColon ∷ cl.TypedefName ∷ cl.TypedefColon ∷ cl.Constant ∷ cl.String ∷ cl.LeftParen ∷ cl.Generic ∷ []); goes = (cl.String ∷ []); shuns = None; flat = true } ∷
+    record { kinds = (14 ∷ 2 ∷ 3 ∷ 4 ∷ 7 ∷ []); openers = (8 ∷ 1 ∷ []); suffixes = []; firsts = (cl.Ident ∷ cl.IdentColon ∷ cl.TypedefName ∷ cl.TypedefColon ∷ cl.Constant ∷ cl.String ∷ cl.LeftParen ∷ cl.Generic ∷ []); goes = (cl.String ∷ []); shuns = None; flat = true } ∷
     -- GenericSelection
     record { kinds = (14 ∷ []); openers = (8 ∷ []); suffixes = []; firsts = (cl.Generic ∷ []); goes = []; shuns = None; flat = true } ∷
     -- GenericAssocList
@@ -1114,57 +1114,57 @@ goals =
     -- GenericAssociation
     record { kinds = (20 ∷ 23 ∷ []); openers = (17 ∷ []); suffixes = []; firsts = (cl.TypedefName ∷ cl.TypedefColon ∷ cl.Default ∷ cl.Void ∷ cl.Char ∷ cl.Short ∷ cl.Int ∷ cl.Long ∷ cl.Float ∷ cl.Double ∷ cl.Signed ∷ cl.Unsigned ∷ cl.Bool ∷ cl.Struct ∷ cl.Union ∷ cl.Enum ∷ cl.Const ∷ cl.Restrict ∷ cl.Volatile ∷ cl.Atomic ∷ cl.AtomicParen ∷ []); goes = (cl.String ∷ cl.LeftParen ∷ cl.TypeParen ∷ cl.LiteralParen ∷ cl.LeftBracket ∷ cl.Dot ∷ cl.Arrow ∷ cl.PlusPlus ∷ cl.MinusMinus ∷ cl.Ampersand ∷ cl.Star ∷ cl.Plus ∷ cl.Minus ∷ cl.Slash ∷ cl.Percent ∷ cl.ShiftLeft ∷ cl.ShiftRight ∷ cl.Less ∷ cl.Greater ∷ cl.LessEqual ∷ cl.GreaterEqual ∷ cl.EqualEqual ∷ cl.BangEqual ∷ cl.Caret ∷ cl.Bar ∷ cl.AndAnd ∷ cl.OrOr ∷ cl.Question ∷ cl.Equal ∷ cl.StarEqual ∷ cl.SlashEqual ∷ cl.PercentEqual ∷ cl.PlusEqual ∷ cl.MinusEqual ∷ cl.ShiftLeftEqual ∷ cl.ShiftRightEqual ∷ cl.AmpersandEqual ∷ cl.CaretEqual ∷ cl.BarEqual ∷ []); shuns = None; flat = true } ∷
     -- PostfixExpression
-    record { kinds = (28 ∷ 31 ∷ 33 ∷ 35 ∷ 36 ∷ 37 ∷ 44 ∷ 46 ∷ 2 ∷ 3 ∷ 4 ∷ 7 ∷ 14 ∷ []); openers = (38 ∷ 1 ∷ 8 ∷ []); suffixes = (24 ∷ []); firsts = (cl.Ident ∷ cl.IdentColon ∷ cl.TypedefName ∷ cl.TypedefColon ∷ cl.Constant ∷ cl.String ∷ cl.LeftParen ∷ cl.LiteralParen ∷ cl.Generic ∷ []); goes = (cl.String ∷ cl.LeftParen ∷ cl.TypeParen ∷ cl.LiteralParen ∷ cl.LeftBracket ∷ cl.Dot ∷ cl.Arrow ∷ cl.PlusPlus ∷ cl.MinusMinus ∷ []); shuns = None; flat = true } ∷
+    record { kinds = (14 ∷ 2 ∷ 3 ∷ 4 ∷ 7 ∷ 28 ∷ 31 ∷ 33 ∷ 35 ∷ 36 ∷ 37 ∷ 44 ∷ 46 ∷ []); openers = (8 ∷ 1 ∷ 38 ∷ []); suffixes = (24 ∷ []); firsts = (cl.Ident ∷ cl.IdentColon ∷ cl.TypedefName ∷ cl.TypedefColon ∷ cl.Constant ∷ cl.String ∷ cl.LeftParen ∷ cl.LiteralParen ∷ cl.Generic ∷ []); goes = (cl.String ∷ cl.LeftParen ∷ cl.TypeParen ∷ cl.LiteralParen ∷ cl.LeftBracket ∷ cl.Dot ∷ cl.Arrow ∷ cl.PlusPlus ∷ cl.MinusMinus ∷ []); shuns = None; flat = true } ∷
     -- ArgumentExpressionList
     record { kinds = (48 ∷ []); openers = (47 ∷ []); suffixes = []; firsts = (cl.Ident ∷ cl.IdentColon ∷ cl.TypedefName ∷ cl.TypedefColon ∷ cl.Constant ∷ cl.String ∷ cl.LeftParen ∷ cl.TypeParen ∷ cl.LiteralParen ∷ cl.PlusPlus ∷ cl.MinusMinus ∷ cl.Ampersand ∷ cl.Star ∷ cl.Plus ∷ cl.Minus ∷ cl.Tilde ∷ cl.Bang ∷ cl.Sizeof ∷ cl.Alignof ∷ cl.Generic ∷ []); goes = (cl.String ∷ cl.LeftParen ∷ cl.TypeParen ∷ cl.LiteralParen ∷ cl.LeftBracket ∷ cl.Dot ∷ cl.Arrow ∷ cl.PlusPlus ∷ cl.MinusMinus ∷ cl.Ampersand ∷ cl.Star ∷ cl.Plus ∷ cl.Minus ∷ cl.Slash ∷ cl.Percent ∷ cl.ShiftLeft ∷ cl.ShiftRight ∷ cl.Less ∷ cl.Greater ∷ cl.LessEqual ∷ cl.GreaterEqual ∷ cl.EqualEqual ∷ cl.BangEqual ∷ cl.Caret ∷ cl.Bar ∷ cl.AndAnd ∷ cl.OrOr ∷ cl.Question ∷ cl.Comma ∷ cl.Equal ∷ cl.StarEqual ∷ cl.SlashEqual ∷ cl.PercentEqual ∷ cl.PlusEqual ∷ cl.MinusEqual ∷ cl.ShiftLeftEqual ∷ cl.ShiftRightEqual ∷ cl.AmpersandEqual ∷ cl.CaretEqual ∷ cl.BarEqual ∷ []); shuns = None; flat = true } ∷
     -- UnaryExpression
-    record { kinds = (51 ∷ 53 ∷ 55 ∷ 57 ∷ 60 ∷ 64 ∷ 28 ∷ 31 ∷ 33 ∷ 35 ∷ 36 ∷ 37 ∷ 44 ∷ 46 ∷ 2 ∷ 3 ∷ 4 ∷ 7 ∷ 14 ∷ []); openers = (49 ∷ 38 ∷ 1 ∷ 8 ∷ []); suffixes = (24 ∷ []); firsts = (cl.Ident ∷ cl.IdentColon ∷ cl.TypedefName ∷ cl.TypedefColon ∷ cl.Constant ∷ cl.String ∷ cl.LeftParen ∷ cl.LiteralParen ∷ cl.PlusPlus ∷ cl.MinusMinus ∷ cl.Ampersand ∷ cl.Star ∷ cl.Plus ∷ cl.Minus ∷ cl.Tilde ∷ cl.Bang ∷ cl.Sizeof ∷ cl.Alignof ∷ cl.Generic ∷ []); goes = (cl.String ∷ cl.LeftParen ∷ cl.TypeParen ∷ cl.LiteralParen ∷ cl.LeftBracket ∷ cl.Dot ∷ cl.Arrow ∷ cl.PlusPlus ∷ cl.MinusMinus ∷ []); shuns = None; flat = true } ∷
+    record { kinds = (14 ∷ 2 ∷ 3 ∷ 4 ∷ 7 ∷ 28 ∷ 31 ∷ 33 ∷ 35 ∷ 36 ∷ 37 ∷ 44 ∷ 46 ∷ 51 ∷ 53 ∷ 55 ∷ 57 ∷ 60 ∷ 64 ∷ []); openers = (8 ∷ 1 ∷ 38 ∷ 49 ∷ []); suffixes = (24 ∷ []); firsts = (cl.Ident ∷ cl.IdentColon ∷ cl.TypedefName ∷ cl.TypedefColon ∷ cl.Constant ∷ cl.String ∷ cl.LeftParen ∷ cl.LiteralParen ∷ cl.PlusPlus ∷ cl.MinusMinus ∷ cl.Ampersand ∷ cl.Star ∷ cl.Plus ∷ cl.Minus ∷ cl.Tilde ∷ cl.Bang ∷ cl.Sizeof ∷ cl.Alignof ∷ cl.Generic ∷ []); goes = (cl.String ∷ cl.LeftParen ∷ cl.TypeParen ∷ cl.LiteralParen ∷ cl.LeftBracket ∷ cl.Dot ∷ cl.Arrow ∷ cl.PlusPlus ∷ cl.MinusMinus ∷ []); shuns = None; flat = true } ∷
     -- UnaryOperator
     record { kinds = (66 ∷ 67 ∷ 68 ∷ 69 ∷ 70 ∷ 71 ∷ []); openers = (65 ∷ []); suffixes = []; firsts = (cl.Ampersand ∷ cl.Star ∷ cl.Plus ∷ cl.Minus ∷ cl.Tilde ∷ cl.Bang ∷ []); goes = []; shuns = None; flat = true } ∷
     -- CastExpression
-    record { kinds = (76 ∷ 51 ∷ 53 ∷ 55 ∷ 57 ∷ 60 ∷ 64 ∷ 28 ∷ 31 ∷ 33 ∷ 35 ∷ 36 ∷ 37 ∷ 44 ∷ 46 ∷ 2 ∷ 3 ∷ 4 ∷ 7 ∷ 14 ∷ []); openers = (72 ∷ 49 ∷ 38 ∷ 1 ∷ 8 ∷ []); suffixes = (24 ∷ []); firsts = (cl.Ident ∷ cl.IdentColon ∷ cl.TypedefName ∷ cl.TypedefColon ∷ cl.Constant ∷ cl.String ∷ cl.LeftParen ∷ cl.TypeParen ∷ cl.LiteralParen ∷ cl.PlusPlus ∷ cl.MinusMinus ∷ cl.Ampersand ∷ cl.Star ∷ cl.Plus ∷ cl.Minus ∷ cl.Tilde ∷ cl.Bang ∷ cl.Sizeof ∷ cl.Alignof ∷ cl.Generic ∷ []); goes = (cl.String ∷ cl.LeftParen ∷ cl.TypeParen ∷ cl.LiteralParen ∷ cl.LeftBracket ∷ cl.Dot ∷ cl.Arrow ∷ cl.PlusPlus ∷ cl.MinusMinus ∷ []); shuns = None; flat = true } ∷
+    record { kinds = (14 ∷ 2 ∷ 3 ∷ 4 ∷ 7 ∷ 28 ∷ 31 ∷ 33 ∷ 35 ∷ 36 ∷ 37 ∷ 44 ∷ 46 ∷ 51 ∷ 53 ∷ 55 ∷ 57 ∷ 60 ∷ 64 ∷ 76 ∷ []); openers = (8 ∷ 1 ∷ 38 ∷ 49 ∷ 72 ∷ []); suffixes = (24 ∷ []); firsts = (cl.Ident ∷ cl.IdentColon ∷ cl.TypedefName ∷ cl.TypedefColon ∷ cl.Constant ∷ cl.String ∷ cl.LeftParen ∷ cl.TypeParen ∷ cl.LiteralParen ∷ cl.PlusPlus ∷ cl.MinusMinus ∷ cl.Ampersand ∷ cl.Star ∷ cl.Plus ∷ cl.Minus ∷ cl.Tilde ∷ cl.Bang ∷ cl.Sizeof ∷ cl.Alignof ∷ cl.Generic ∷ []); goes = (cl.String ∷ cl.LeftParen ∷ cl.TypeParen ∷ cl.LiteralParen ∷ cl.LeftBracket ∷ cl.Dot ∷ cl.Arrow ∷ cl.PlusPlus ∷ cl.MinusMinus ∷ []); shuns = None; flat = true } ∷
     -- MultiplicativeExpression
-    record { kinds = (80 ∷ 82 ∷ 84 ∷ 76 ∷ 51 ∷ 53 ∷ 55 ∷ 57 ∷ 60 ∷ 64 ∷ 28 ∷ 31 ∷ 33 ∷ 35 ∷ 36 ∷ 37 ∷ 44 ∷ 46 ∷ 2 ∷ 3 ∷ 4 ∷ 7 ∷ 14 ∷ []); openers = (72 ∷ 49 ∷ 38 ∷ 1 ∷ 8 ∷ []); suffixes = (77 ∷ 24 ∷ []); firsts = (cl.Ident ∷ cl.IdentColon ∷ cl.TypedefName ∷ cl.TypedefColon ∷ cl.Constant ∷ cl.String ∷ cl.LeftParen ∷ cl.TypeParen ∷ cl.LiteralParen ∷ cl.PlusPlus ∷ cl.MinusMinus ∷ cl.Ampersand ∷ cl.Star ∷ cl.Plus ∷ cl.Minus ∷ cl.Tilde ∷ cl.Bang ∷ cl.Sizeof ∷ cl.Alignof ∷ cl.Generic ∷ []); goes = (cl.String ∷ cl.LeftParen ∷ cl.TypeParen ∷ cl.LiteralParen ∷ cl.LeftBracket ∷ cl.Dot ∷ cl.Arrow ∷ cl.PlusPlus ∷ cl.MinusMinus ∷ cl.Star ∷ cl.Slash ∷ cl.Percent ∷ []); shuns = None; flat = true } ∷
+    record { kinds = (14 ∷ 2 ∷ 3 ∷ 4 ∷ 7 ∷ 28 ∷ 31 ∷ 33 ∷ 35 ∷ 36 ∷ 37 ∷ 44 ∷ 46 ∷ 51 ∷ 53 ∷ 55 ∷ 57 ∷ 60 ∷ 64 ∷ 76 ∷ 80 ∷ 82 ∷ 84 ∷ []); openers = (8 ∷ 1 ∷ 38 ∷ 49 ∷ 72 ∷ []); suffixes = (24 ∷ 77 ∷ []); firsts = (cl.Ident ∷ cl.IdentColon ∷ cl.TypedefName ∷ cl.TypedefColon ∷ cl.Constant ∷ cl.String ∷ cl.LeftParen ∷ cl.TypeParen ∷ cl.LiteralParen ∷ cl.PlusPlus ∷ cl.MinusMinus ∷ cl.Ampersand ∷ cl.Star ∷ cl.Plus ∷ cl.Minus ∷ cl.Tilde ∷ cl.Bang ∷ cl.Sizeof ∷ cl.Alignof ∷ cl.Generic ∷ []); goes = (cl.String ∷ cl.LeftParen ∷ cl.TypeParen ∷ cl.LiteralParen ∷ cl.LeftBracket ∷ cl.Dot ∷ cl.Arrow ∷ cl.PlusPlus ∷ cl.MinusMinus ∷ cl.Star ∷ cl.Slash ∷ cl.Percent ∷ []); shuns = None; flat = true } ∷
     -- AdditiveExpression
-    record { kinds = (88 ∷ 90 ∷ 80 ∷ 82 ∷ 84 ∷ 76 ∷ 51 ∷ 53 ∷ 55 ∷ 57 ∷ 60 ∷ 64 ∷ 28 ∷ 31 ∷ 33 ∷ 35 ∷ 36 ∷ 37 ∷ 44 ∷ 46 ∷ 2 ∷ 3 ∷ 4 ∷ 7 ∷ 14 ∷ []); openers = (72 ∷ 49 ∷ 38 ∷ 1 ∷ 8 ∷ []); suffixes = (85 ∷ 77 ∷ 24 ∷ []); firsts = (cl.Ident ∷ cl.IdentColon ∷ cl.TypedefName ∷ cl.TypedefColon ∷ cl.Constant ∷ cl.String ∷ cl.LeftParen ∷ cl.TypeParen ∷ cl.LiteralParen ∷ cl.PlusPlus ∷ cl.MinusMinus ∷ cl.Ampersand ∷ cl.Star ∷ cl.Plus ∷ cl.Minus ∷ cl.Tilde ∷ cl.Bang ∷ cl.Sizeof ∷ cl.Alignof ∷ cl.Generic ∷ []); goes = (cl.String ∷ cl.LeftParen ∷ cl.TypeParen ∷ cl.LiteralParen ∷ cl.LeftBracket ∷ cl.Dot ∷ cl.Arrow ∷ cl.PlusPlus ∷ cl.MinusMinus ∷ cl.Star ∷ cl.Plus ∷ cl.Minus ∷ cl.Slash ∷ cl.Percent ∷ []); shuns = None; flat = true } ∷
+    record { kinds = (14 ∷ 2 ∷ 3 ∷ 4 ∷ 7 ∷ 28 ∷ 31 ∷ 33 ∷ 35 ∷ 36 ∷ 37 ∷ 44 ∷ 46 ∷ 51 ∷ 53 ∷ 55 ∷ 57 ∷ 60 ∷ 64 ∷ 76 ∷ 80 ∷ 82 ∷ 84 ∷ 88 ∷ 90 ∷ []); openers = (8 ∷ 1 ∷ 38 ∷ 49 ∷ 72 ∷ []); suffixes = (24 ∷ 77 ∷ 85 ∷ []); firsts = (cl.Ident ∷ cl.IdentColon ∷ cl.TypedefName ∷ cl.TypedefColon ∷ cl.Constant ∷ cl.String ∷ cl.LeftParen ∷ cl.TypeParen ∷ cl.LiteralParen ∷ cl.PlusPlus ∷ cl.MinusMinus ∷ cl.Ampersand ∷ cl.Star ∷ cl.Plus ∷ cl.Minus ∷ cl.Tilde ∷ cl.Bang ∷ cl.Sizeof ∷ cl.Alignof ∷ cl.Generic ∷ []); goes = (cl.String ∷ cl.LeftParen ∷ cl.TypeParen ∷ cl.LiteralParen ∷ cl.LeftBracket ∷ cl.Dot ∷ cl.Arrow ∷ cl.PlusPlus ∷ cl.MinusMinus ∷ cl.Star ∷ cl.Plus ∷ cl.Minus ∷ cl.Slash ∷ cl.Percent ∷ []); shuns = None; flat = true } ∷
     -- ShiftExpression
-    record { kinds = (94 ∷ 96 ∷ 88 ∷ 90 ∷ 80 ∷ 82 ∷ 84 ∷ 76 ∷ 51 ∷ 53 ∷ 55 ∷ 57 ∷ 60 ∷ 64 ∷ 28 ∷ 31 ∷ 33 ∷ 35 ∷ 36 ∷ 37 ∷ 44 ∷ 46 ∷ 2 ∷ 3 ∷ 4 ∷ 7 ∷ 14 ∷ []); openers = (72 ∷ 49 ∷ 38 ∷ 1 ∷ 8 ∷ []); suffixes = (91 ∷ 85 ∷ 77 ∷ 24 ∷ []); firsts = (cl.Ident ∷ cl.IdentColon ∷ cl.TypedefName ∷ cl.TypedefColon ∷ cl.Constant ∷ cl.String ∷ cl.LeftParen ∷ cl.TypeParen ∷ cl.LiteralParen ∷ cl.PlusPlus ∷ cl.MinusMinus ∷ cl.Ampersand ∷ cl.Star ∷ cl.Plus ∷ cl.Minus ∷ cl.Tilde ∷ cl.Bang ∷ cl.Sizeof ∷ cl.Alignof ∷ cl.Generic ∷ []); goes = (cl.String ∷ cl.LeftParen ∷ cl.TypeParen ∷ cl.LiteralParen ∷ cl.LeftBracket ∷ cl.Dot ∷ cl.Arrow ∷ cl.PlusPlus ∷ cl.MinusMinus ∷ cl.Star ∷ cl.Plus ∷ cl.Minus ∷ cl.Slash ∷ cl.Percent ∷ cl.ShiftLeft ∷ cl.ShiftRight ∷ []); shuns = None; flat = true } ∷
+    record { kinds = (14 ∷ 2 ∷ 3 ∷ 4 ∷ 7 ∷ 28 ∷ 31 ∷ 33 ∷ 35 ∷ 36 ∷ 37 ∷ 44 ∷ 46 ∷ 51 ∷ 53 ∷ 55 ∷ 57 ∷ 60 ∷ 64 ∷ 76 ∷ 80 ∷ 82 ∷ 84 ∷ 88 ∷ 90 ∷ 94 ∷ 96 ∷ []); openers = (8 ∷ 1 ∷ 38 ∷ 49 ∷ 72 ∷ []); suffixes = (24 ∷ 77 ∷ 85 ∷ 91 ∷ []); firsts = (cl.Ident ∷ cl.IdentColon ∷ cl.TypedefName ∷ cl.TypedefColon ∷ cl.Constant ∷ cl.String ∷ cl.LeftParen ∷ cl.TypeParen ∷ cl.LiteralParen ∷ cl.PlusPlus ∷ cl.MinusMinus ∷ cl.Ampersand ∷ cl.Star ∷ cl.Plus ∷ cl.Minus ∷ cl.Tilde ∷ cl.Bang ∷ cl.Sizeof ∷ cl.Alignof ∷ cl.Generic ∷ []); goes = (cl.String ∷ cl.LeftParen ∷ cl.TypeParen ∷ cl.LiteralParen ∷ cl.LeftBracket ∷ cl.Dot ∷ cl.Arrow ∷ cl.PlusPlus ∷ cl.MinusMinus ∷ cl.Star ∷ cl.Plus ∷ cl.Minus ∷ cl.Slash ∷ cl.Percent ∷ cl.ShiftLeft ∷ cl.ShiftRight ∷ []); shuns = None; flat = true } ∷
     -- RelationalExpression
-    record { kinds = (100 ∷ 102 ∷ 104 ∷ 106 ∷ 94 ∷ 96 ∷ 88 ∷ 90 ∷ 80 ∷ 82 ∷ 84 ∷ 76 ∷ 51 ∷ 53 ∷ 55 ∷ 57 ∷ 60 ∷ 64 ∷ 28 ∷ 31 ∷ 33 ∷ 35 ∷ 36 ∷ 37 ∷ 44 ∷ 46 ∷ 2 ∷ 3 ∷ 4 ∷ 7 ∷ 14 ∷ []); openers = (72 ∷ 49 ∷ 38 ∷ 1 ∷ 8 ∷ []); suffixes = (97 ∷ 91 ∷ 85 ∷ 77 ∷ 24 ∷ []); firsts = (cl.Ident ∷ cl.IdentColon ∷ cl.TypedefName ∷ cl.TypedefColon ∷ cl.Constant ∷ cl.String ∷ cl.LeftParen ∷ cl.TypeParen ∷ cl.LiteralParen ∷ cl.PlusPlus ∷ cl.MinusMinus ∷ cl.Ampersand ∷ cl.Star ∷ cl.Plus ∷ cl.Minus ∷ cl.Tilde ∷ cl.Bang ∷ cl.Sizeof ∷ cl.Alignof ∷ cl.Generic ∷ []); goes = (cl.String ∷ cl.LeftParen ∷ cl.TypeParen ∷ cl.LiteralParen ∷ cl.LeftBracket ∷ cl.Dot ∷ cl.Arrow ∷ cl.PlusPlus ∷ cl.MinusMinus ∷ cl.Star ∷ cl.Plus ∷ cl.Minus ∷ cl.Slash ∷ cl.Percent ∷ cl.ShiftLeft ∷ cl.ShiftRight ∷ cl.Less ∷ cl.Greater ∷ cl.LessEqual ∷ cl.GreaterEqual ∷ []); shuns = None; flat = true } ∷
+    record { kinds = (14 ∷ 2 ∷ 3 ∷ 4 ∷ 7 ∷ 28 ∷ 31 ∷ 33 ∷ 35 ∷ 36 ∷ 37 ∷ 44 ∷ 46 ∷ 51 ∷ 53 ∷ 55 ∷ 57 ∷ 60 ∷ 64 ∷ 76 ∷ 80 ∷ 82 ∷ 84 ∷ 88 ∷ 90 ∷ 94 ∷ 96 ∷ 100 ∷ 102 ∷ 104 ∷ 106 ∷ []); openers = (8 ∷ 1 ∷ 38 ∷ 49 ∷ 72 ∷ []); suffixes = (24 ∷ 77 ∷ 85 ∷ 91 ∷ 97 ∷ []); firsts = (cl.Ident ∷ cl.IdentColon ∷ cl.TypedefName ∷ cl.TypedefColon ∷ cl.Constant ∷ cl.String ∷ cl.LeftParen ∷ cl.TypeParen ∷ cl.LiteralParen ∷ cl.PlusPlus ∷ cl.MinusMinus ∷ cl.Ampersand ∷ cl.Star ∷ cl.Plus ∷ cl.Minus ∷ cl.Tilde ∷ cl.Bang ∷ cl.Sizeof ∷ cl.Alignof ∷ cl.Generic ∷ []); goes = (cl.String ∷ cl.LeftParen ∷ cl.TypeParen ∷ cl.LiteralParen ∷ cl.LeftBracket ∷ cl.Dot ∷ cl.Arrow ∷ cl.PlusPlus ∷ cl.MinusMinus ∷ cl.Star ∷ cl.Plus ∷ cl.Minus ∷ cl.Slash ∷ cl.Percent ∷ cl.ShiftLeft ∷ cl.ShiftRight ∷ cl.Less ∷ cl.Greater ∷ cl.LessEqual ∷ cl.GreaterEqual ∷ []); shuns = None; flat = true } ∷
     -- EqualityExpression
-    record { kinds = (110 ∷ 112 ∷ 100 ∷ 102 ∷ 104 ∷ 106 ∷ 94 ∷ 96 ∷ 88 ∷ 90 ∷ 80 ∷ 82 ∷ 84 ∷ 76 ∷ 51 ∷ 53 ∷ 55 ∷ 57 ∷ 60 ∷ 64 ∷ 28 ∷ 31 ∷ 33 ∷ 35 ∷ 36 ∷ 37 ∷ 44 ∷ 46 ∷ 2 ∷ 3 ∷ 4 ∷ 7 ∷ 14 ∷ []); openers = (72 ∷ 49 ∷ 38 ∷ 1 ∷ 8 ∷ []); suffixes = (107 ∷ 97 ∷ 91 ∷ 85 ∷ 77 ∷ 24 ∷ []); firsts = (cl.Ident ∷ cl.IdentColon ∷ cl.TypedefName ∷ cl.TypedefColon ∷ cl.Constant ∷ cl.String ∷ cl.LeftParen ∷ cl.TypeParen ∷ cl.LiteralParen ∷ cl.PlusPlus ∷ cl.MinusMinus ∷ cl.Ampersand ∷ cl.Star ∷ cl.Plus ∷ cl.Minus ∷ cl.Tilde ∷ cl.Bang ∷ cl.Sizeof ∷ cl.Alignof ∷ cl.Generic ∷ []); goes = (cl.String ∷ cl.LeftParen ∷ cl.TypeParen ∷ cl.LiteralParen ∷ cl.LeftBracket ∷ cl.Dot ∷ cl.Arrow ∷ cl.PlusPlus ∷ cl.MinusMinus ∷ cl.Star ∷ cl.Plus ∷ cl.Minus ∷ cl.Slash ∷ cl.Percent ∷ cl.ShiftLeft ∷ cl.ShiftRight ∷ cl.Less ∷ cl.Greater ∷ cl.LessEqual ∷ cl.GreaterEqual ∷ cl.EqualEqual ∷ cl.BangEqual ∷ []); shuns = None; flat = true } ∷
+    record { kinds = (14 ∷ 2 ∷ 3 ∷ 4 ∷ 7 ∷ 28 ∷ 31 ∷ 33 ∷ 35 ∷ 36 ∷ 37 ∷ 44 ∷ 46 ∷ 51 ∷ 53 ∷ 55 ∷ 57 ∷ 60 ∷ 64 ∷ 76 ∷ 80 ∷ 82 ∷ 84 ∷ 88 ∷ 90 ∷ 94 ∷ 96 ∷ 100 ∷ 102 ∷ 104 ∷ 106 ∷ 110 ∷ 112 ∷ []); openers = (8 ∷ 1 ∷ 38 ∷ 49 ∷ 72 ∷ []); suffixes = (24 ∷ 77 ∷ 85 ∷ 91 ∷ 97 ∷ 107 ∷ []); firsts = (cl.Ident ∷ cl.IdentColon ∷ cl.TypedefName ∷ cl.TypedefColon ∷ cl.Constant ∷ cl.String ∷ cl.LeftParen ∷ cl.TypeParen ∷ cl.LiteralParen ∷ cl.PlusPlus ∷ cl.MinusMinus ∷ cl.Ampersand ∷ cl.Star ∷ cl.Plus ∷ cl.Minus ∷ cl.Tilde ∷ cl.Bang ∷ cl.Sizeof ∷ cl.Alignof ∷ cl.Generic ∷ []); goes = (cl.String ∷ cl.LeftParen ∷ cl.TypeParen ∷ cl.LiteralParen ∷ cl.LeftBracket ∷ cl.Dot ∷ cl.Arrow ∷ cl.PlusPlus ∷ cl.MinusMinus ∷ cl.Star ∷ cl.Plus ∷ cl.Minus ∷ cl.Slash ∷ cl.Percent ∷ cl.ShiftLeft ∷ cl.ShiftRight ∷ cl.Less ∷ cl.Greater ∷ cl.LessEqual ∷ cl.GreaterEqual ∷ cl.EqualEqual ∷ cl.BangEqual ∷ []); shuns = None; flat = true } ∷
     -- AndExpression
-    record { kinds = (116 ∷ 110 ∷ 112 ∷ 100 ∷ 102 ∷ 104 ∷ 106 ∷ 94 ∷ 96 ∷ 88 ∷ 90 ∷ 80 ∷ 82 ∷ 84 ∷ 76 ∷ 51 ∷ 53 ∷ 55 ∷ 57 ∷ 60 ∷ 64 ∷ 28 ∷ 31 ∷ 33 ∷ 35 ∷ 36 ∷ 37 ∷ 44 ∷ 46 ∷ 2 ∷ 3 ∷ 4 ∷ 7 ∷ 14 ∷ []); openers = (72 ∷ 49 ∷ 38 ∷ 1 ∷ 8 ∷ []); suffixes = (113 ∷ 107 ∷ 97 ∷ 91 ∷ 85 ∷ 77 ∷ 24 ∷ []); firsts = (cl.Ident ∷ cl.IdentColon ∷ cl.TypedefName ∷ cl.TypedefColon ∷ cl.Constant ∷ cl.String ∷ cl.LeftParen ∷ cl.TypeParen ∷ cl.LiteralParen ∷ cl.PlusPlus ∷ cl.MinusMinus ∷ cl.Ampersand ∷ cl.Star ∷ cl.Plus ∷ cl.Minus ∷ cl.Tilde ∷ cl.Bang ∷ cl.Sizeof ∷ cl.Alignof ∷ cl.Generic ∷ []); goes = (cl.String ∷ cl.LeftParen ∷ cl.TypeParen ∷ cl.LiteralParen ∷ cl.LeftBracket ∷ cl.Dot ∷ cl.Arrow ∷ cl.PlusPlus ∷ cl.MinusMinus ∷ cl.Ampersand ∷ cl.Star ∷ cl.Plus ∷ cl.Minus ∷ cl.Slash ∷ cl.Percent ∷ cl.ShiftLeft ∷ cl.ShiftRight ∷ cl.Less ∷ cl.Greater ∷ cl.LessEqual ∷ cl.GreaterEqual ∷ cl.EqualEqual ∷ cl.BangEqual ∷ []); shuns = None; flat = true } ∷
+    record { kinds = (14 ∷ 2 ∷ 3 ∷ 4 ∷ 7 ∷ 28 ∷ 31 ∷ 33 ∷ 35 ∷ 36 ∷ 37 ∷ 44 ∷ 46 ∷ 51 ∷ 53 ∷ 55 ∷ 57 ∷ 60 ∷ 64 ∷ 76 ∷ 80 ∷ 82 ∷ 84 ∷ 88 ∷ 90 ∷ 94 ∷ 96 ∷ 100 ∷ 102 ∷ 104 ∷ 106 ∷ 110 ∷ 112 ∷ 116 ∷ []); openers = (8 ∷ 1 ∷ 38 ∷ 49 ∷ 72 ∷ []); suffixes = (24 ∷ 77 ∷ 85 ∷ 91 ∷ 97 ∷ 107 ∷ 113 ∷ []); firsts = (cl.Ident ∷ cl.IdentColon ∷ cl.TypedefName ∷ cl.TypedefColon ∷ cl.Constant ∷ cl.String ∷ cl.LeftParen ∷ cl.TypeParen ∷ cl.LiteralParen ∷ cl.PlusPlus ∷ cl.MinusMinus ∷ cl.Ampersand ∷ cl.Star ∷ cl.Plus ∷ cl.Minus ∷ cl.Tilde ∷ cl.Bang ∷ cl.Sizeof ∷ cl.Alignof ∷ cl.Generic ∷ []); goes = (cl.String ∷ cl.LeftParen ∷ cl.TypeParen ∷ cl.LiteralParen ∷ cl.LeftBracket ∷ cl.Dot ∷ cl.Arrow ∷ cl.PlusPlus ∷ cl.MinusMinus ∷ cl.Ampersand ∷ cl.Star ∷ cl.Plus ∷ cl.Minus ∷ cl.Slash ∷ cl.Percent ∷ cl.ShiftLeft ∷ cl.ShiftRight ∷ cl.Less ∷ cl.Greater ∷ cl.LessEqual ∷ cl.GreaterEqual ∷ cl.EqualEqual ∷ cl.BangEqual ∷ []); shuns = None; flat = true } ∷
     -- ExclusiveOrExpression
-    record { kinds = (120 ∷ 116 ∷ 110 ∷ 112 ∷ 100 ∷ 102 ∷ 104 ∷ 106 ∷ 94 ∷ 96 ∷ 88 ∷ 90 ∷ 80 ∷ 82 ∷ 84 ∷ 76 ∷ 51 ∷ 53 ∷ 55 ∷ 57 ∷ 60 ∷ 64 ∷ 28 ∷ 31 ∷ 33 ∷ 35 ∷ 36 ∷ 37 ∷ 44 ∷ 46 ∷ 2 ∷ 3 ∷ 4 ∷ 7 ∷ 14 ∷ []); openers = (72 ∷ 49 ∷ 38 ∷ 1 ∷ 8 ∷ []); suffixes = (117 ∷ 113 ∷ 107 ∷ 97 ∷ 91 ∷ 85 ∷ 77 ∷ 24 ∷ []); firsts = (cl.Ident ∷ cl.IdentColon ∷ cl.TypedefName ∷ cl.TypedefColon ∷ cl.Constant ∷ cl.String ∷ cl.LeftParen ∷ cl.TypeParen ∷ cl.LiteralParen ∷ cl.PlusPlus ∷ cl.MinusMinus ∷ cl.Ampersand ∷ cl.Star ∷ cl.Plus ∷ cl.Minus ∷ cl.Tilde ∷ cl.Bang ∷ cl.Sizeof ∷ cl.Alignof ∷ cl.Generic ∷ []); goes = (cl.String ∷ cl.LeftParen ∷ cl.TypeParen ∷ cl.LiteralParen ∷ cl.LeftBracket ∷ cl.Dot ∷ cl.Arrow ∷ cl.PlusPlus ∷ cl.MinusMinus ∷ cl.Ampersand ∷ cl.Star ∷ cl.Plus ∷ cl.Minus ∷ cl.Slash ∷ cl.Percent ∷ cl.ShiftLeft ∷ cl.ShiftRight ∷ cl.Less ∷ cl.Greater ∷ cl.LessEqual ∷ cl.GreaterEqual ∷ cl.EqualEqual ∷ cl.BangEqual ∷ cl.Caret ∷ []); shuns = None; flat = true } ∷
+    record { kinds = (14 ∷ 2 ∷ 3 ∷ 4 ∷ 7 ∷ 28 ∷ 31 ∷ 33 ∷ 35 ∷ 36 ∷ 37 ∷ 44 ∷ 46 ∷ 51 ∷ 53 ∷ 55 ∷ 57 ∷ 60 ∷ 64 ∷ 76 ∷ 80 ∷ 82 ∷ 84 ∷ 88 ∷ 90 ∷ 94 ∷ 96 ∷ 100 ∷ 102 ∷ 104 ∷ 106 ∷ 110 ∷ 112 ∷ 116 ∷ 120 ∷ []); openers = (8 ∷ 1 ∷ 38 ∷ 49 ∷ 72 ∷ []); suffixes = (24 ∷ 77 ∷ 85 ∷ 91 ∷ 97 ∷ 107 ∷ 113 ∷ 117 ∷ []); firsts = (cl.Ident ∷ cl.IdentColon ∷ cl.TypedefName ∷ cl.TypedefColon ∷ cl.Constant ∷ cl.String ∷ cl.LeftParen ∷ cl.TypeParen ∷ cl.LiteralParen ∷ cl.PlusPlus ∷ cl.MinusMinus ∷ cl.Ampersand ∷ cl.Star ∷ cl.Plus ∷ cl.Minus ∷ cl.Tilde ∷ cl.Bang ∷ cl.Sizeof ∷ cl.Alignof ∷ cl.Generic ∷ []); goes = (cl.String ∷ cl.LeftParen ∷ cl.TypeParen ∷ cl.LiteralParen ∷ cl.LeftBracket ∷ cl.Dot ∷ cl.Arrow ∷ cl.PlusPlus ∷ cl.MinusMinus ∷ cl.Ampersand ∷ cl.Star ∷ cl.Plus ∷ cl.Minus ∷ cl.Slash ∷ cl.Percent ∷ cl.ShiftLeft ∷ cl.ShiftRight ∷ cl.Less ∷ cl.Greater ∷ cl.LessEqual ∷ cl.GreaterEqual ∷ cl.EqualEqual ∷ cl.BangEqual ∷ cl.Caret ∷ []); shuns = None; flat = true } ∷
     -- InclusiveOrExpression
-    record { kinds = (124 ∷ 120 ∷ 116 ∷ 110 ∷ 112 ∷ 100 ∷ 102 ∷ 104 ∷ 106 ∷ 94 ∷ 96 ∷ 88 ∷ 90 ∷ 80 ∷ 82 ∷ 84 ∷ 76 ∷ 51 ∷ 53 ∷ 55 ∷ 57 ∷ 60 ∷ 64 ∷ 28 ∷ 31 ∷ 33 ∷ 35 ∷ 36 ∷ 37 ∷ 44 ∷ 46 ∷ 2 ∷ 3 ∷ 4 ∷ 7 ∷ 14 ∷ []); openers = (72 ∷ 49 ∷ 38 ∷ 1 ∷ 8 ∷ []); suffixes = (121 ∷ 117 ∷ 113 ∷ 107 ∷ 97 ∷ 91 ∷ 85 ∷ 77 ∷ 24 ∷ []); firsts = (cl.Ident ∷ cl.IdentColon ∷ cl.TypedefName ∷ cl.TypedefColon ∷ cl.Constant ∷ cl.String ∷ cl.LeftParen ∷ cl.TypeParen ∷ cl.LiteralParen ∷ cl.PlusPlus ∷ cl.MinusMinus ∷ cl.Ampersand ∷ cl.Star ∷ cl.Plus ∷ cl.Minus ∷ cl.Tilde ∷ cl.Bang ∷ cl.Sizeof ∷ cl.Alignof ∷ cl.Generic ∷ []); goes = (cl.String ∷ cl.LeftParen ∷ cl.TypeParen ∷ cl.LiteralParen ∷ cl.LeftBracket ∷ cl.Dot ∷ cl.Arrow ∷ cl.PlusPlus ∷ cl.MinusMinus ∷ cl.Ampersand ∷ cl.Star ∷ cl.Plus ∷ cl.Minus ∷ cl.Slash ∷ cl.Percent ∷ cl.ShiftLeft ∷ cl.ShiftRight ∷ cl.Less ∷ cl.Greater ∷ cl.LessEqual ∷ cl.GreaterEqual ∷ cl.EqualEqual ∷ cl.BangEqual ∷ cl.Caret ∷ cl.Bar ∷ []); shuns = None; flat = true } ∷
+    record { kinds = (14 ∷ 2 ∷ 3 ∷ 4 ∷ 7 ∷ 28 ∷ 31 ∷ 33 ∷ 35 ∷ 36 ∷ 37 ∷ 44 ∷ 46 ∷ 51 ∷ 53 ∷ 55 ∷ 57 ∷ 60 ∷ 64 ∷ 76 ∷ 80 ∷ 82 ∷ 84 ∷ 88 ∷ 90 ∷ 94 ∷ 96 ∷ 100 ∷ 102 ∷ 104 ∷ 106 ∷ 110 ∷ 112 ∷ 116 ∷ 120 ∷ 124 ∷ []); openers = (8 ∷ 1 ∷ 38 ∷ 49 ∷ 72 ∷ []); suffixes = (24 ∷ 77 ∷ 85 ∷ 91 ∷ 97 ∷ 107 ∷ 113 ∷ 117 ∷ 121 ∷ []); firsts = (cl.Ident ∷ cl.IdentColon ∷ cl.TypedefName ∷ cl.TypedefColon ∷ cl.Constant ∷ cl.String ∷ cl.LeftParen ∷ cl.TypeParen ∷ cl.LiteralParen ∷ cl.PlusPlus ∷ cl.MinusMinus ∷ cl.Ampersand ∷ cl.Star ∷ cl.Plus ∷ cl.Minus ∷ cl.Tilde ∷ cl.Bang ∷ cl.Sizeof ∷ cl.Alignof ∷ cl.Generic ∷ []); goes = (cl.String ∷ cl.LeftParen ∷ cl.TypeParen ∷ cl.LiteralParen ∷ cl.LeftBracket ∷ cl.Dot ∷ cl.Arrow ∷ cl.PlusPlus ∷ cl.MinusMinus ∷ cl.Ampersand ∷ cl.Star ∷ cl.Plus ∷ cl.Minus ∷ cl.Slash ∷ cl.Percent ∷ cl.ShiftLeft ∷ cl.ShiftRight ∷ cl.Less ∷ cl.Greater ∷ cl.LessEqual ∷ cl.GreaterEqual ∷ cl.EqualEqual ∷ cl.BangEqual ∷ cl.Caret ∷ cl.Bar ∷ []); shuns = None; flat = true } ∷
     -- LogicalAndExpression
-    record { kinds = (128 ∷ 124 ∷ 120 ∷ 116 ∷ 110 ∷ 112 ∷ 100 ∷ 102 ∷ 104 ∷ 106 ∷ 94 ∷ 96 ∷ 88 ∷ 90 ∷ 80 ∷ 82 ∷ 84 ∷ 76 ∷ 51 ∷ 53 ∷ 55 ∷ 57 ∷ 60 ∷ 64 ∷ 28 ∷ 31 ∷ 33 ∷ 35 ∷ 36 ∷ 37 ∷ 44 ∷ 46 ∷ 2 ∷ 3 ∷ 4 ∷ 7 ∷ 14 ∷ []); openers = (72 ∷ 49 ∷ 38 ∷ 1 ∷ 8 ∷ []); suffixes = (125 ∷ 121 ∷ 117 ∷ 113 ∷ 107 ∷ 97 ∷ 91 ∷ 85 ∷ 77 ∷ 24 ∷ []); firsts = (cl.Ident ∷ cl.IdentColon ∷ cl.TypedefName ∷ cl.TypedefColon ∷ cl.Constant ∷ cl.String ∷ cl.LeftParen ∷ cl.TypeParen ∷ cl.LiteralParen ∷ cl.PlusPlus ∷ cl.MinusMinus ∷ cl.Ampersand ∷ cl.Star ∷ cl.Plus ∷ cl.Minus ∷ cl.Tilde ∷ cl.Bang ∷ cl.Sizeof ∷ cl.Alignof ∷ cl.Generic ∷ []); goes = (cl.String ∷ cl.LeftParen ∷ cl.TypeParen ∷ cl.LiteralParen ∷ cl.LeftBracket ∷ cl.Dot ∷ cl.Arrow ∷ cl.PlusPlus ∷ cl.MinusMinus ∷ cl.Ampersand ∷ cl.Star ∷ cl.Plus ∷ cl.Minus ∷ cl.Slash ∷ cl.Percent ∷ cl.ShiftLeft ∷ cl.ShiftRight ∷ cl.Less ∷ cl.Greater ∷ cl.LessEqual ∷ cl.GreaterEqual ∷ cl.EqualEqual ∷ cl.BangEqual ∷ cl.Caret ∷ cl.Bar ∷ cl.AndAnd ∷ []); shuns = None; flat = true } ∷
+    record { kinds = (14 ∷ 2 ∷ 3 ∷ 4 ∷ 7 ∷ 28 ∷ 31 ∷ 33 ∷ 35 ∷ 36 ∷ 37 ∷ 44 ∷ 46 ∷ 51 ∷ 53 ∷ 55 ∷ 57 ∷ 60 ∷ 64 ∷ 76 ∷ 80 ∷ 82 ∷ 84 ∷ 88 ∷ 90 ∷ 94 ∷ 96 ∷ 100 ∷ 102 ∷ 104 ∷ 106 ∷ 110 ∷ 112 ∷ 116 ∷ 120 ∷ 124 ∷ 128 ∷ []); openers = (8 ∷ 1 ∷ 38 ∷ 49 ∷ 72 ∷ []); suffixes = (24 ∷ 77 ∷ 85 ∷ 91 ∷ 97 ∷ 107 ∷ 113 ∷ 117 ∷ 121 ∷ 125 ∷ []); firsts = (cl.Ident ∷ cl.IdentColon ∷ cl.TypedefName ∷ cl.TypedefColon ∷ cl.Constant ∷ cl.String ∷ cl.LeftParen ∷ cl.TypeParen ∷ cl.LiteralParen ∷ cl.PlusPlus ∷ cl.MinusMinus ∷ cl.Ampersand ∷ cl.Star ∷ cl.Plus ∷ cl.Minus ∷ cl.Tilde ∷ cl.Bang ∷ cl.Sizeof ∷ cl.Alignof ∷ cl.Generic ∷ []); goes = (cl.String ∷ cl.LeftParen ∷ cl.TypeParen ∷ cl.LiteralParen ∷ cl.LeftBracket ∷ cl.Dot ∷ cl.Arrow ∷ cl.PlusPlus ∷ cl.MinusMinus ∷ cl.Ampersand ∷ cl.Star ∷ cl.Plus ∷ cl.Minus ∷ cl.Slash ∷ cl.Percent ∷ cl.ShiftLeft ∷ cl.ShiftRight ∷ cl.Less ∷ cl.Greater ∷ cl.LessEqual ∷ cl.GreaterEqual ∷ cl.EqualEqual ∷ cl.BangEqual ∷ cl.Caret ∷ cl.Bar ∷ cl.AndAnd ∷ []); shuns = None; flat = true } ∷
     -- LogicalOrExpression
-    record { kinds = (132 ∷ 128 ∷ 124 ∷ 120 ∷ 116 ∷ 110 ∷ 112 ∷ 100 ∷ 102 ∷ 104 ∷ 106 ∷ 94 ∷ 96 ∷ 88 ∷ 90 ∷ 80 ∷ 82 ∷ 84 ∷ 76 ∷ 51 ∷ 53 ∷ 55 ∷ 57 ∷ 60 ∷ 64 ∷ 28 ∷ 31 ∷ 33 ∷ 35 ∷ 36 ∷ 37 ∷ 44 ∷ 46 ∷ 2 ∷ 3 ∷ 4 ∷ 7 ∷ 14 ∷ []); openers = (72 ∷ 49 ∷ 38 ∷ 1 ∷ 8 ∷ []); suffixes = (129 ∷ 125 ∷ 121 ∷ 117 ∷ 113 ∷ 107 ∷ 97 ∷ 91 ∷ 85 ∷ 77 ∷ 24 ∷ []); firsts = (cl.Ident ∷ cl.IdentColon ∷ cl.TypedefName ∷ cl.TypedefColon ∷ cl.Constant ∷ cl.String ∷ cl.LeftParen ∷ cl.TypeParen ∷ cl.LiteralParen ∷ cl.PlusPlus ∷ cl.MinusMinus ∷ cl.Ampersand ∷ cl.Star ∷ cl.Plus ∷ cl.Minus ∷ cl.Tilde ∷ cl.Bang ∷ cl.Sizeof ∷ cl.Alignof ∷ cl.Generic ∷ []); goes = (cl.String ∷ cl.LeftParen ∷ cl.TypeParen ∷ cl.LiteralParen ∷ cl.LeftBracket ∷ cl.Dot ∷ cl.Arrow ∷ cl.PlusPlus ∷ cl.MinusMinus ∷ cl.Ampersand ∷ cl.Star ∷ cl.Plus ∷ cl.Minus ∷ cl.Slash ∷ cl.Percent ∷ cl.ShiftLeft ∷ cl.ShiftRight ∷ cl.Less ∷ cl.Greater ∷ cl.LessEqual ∷ cl.GreaterEqual ∷ cl.EqualEqual ∷ cl.BangEqual ∷ cl.Caret ∷ cl.Bar ∷ cl.AndAnd ∷ cl.OrOr ∷ []); shuns = None; flat = true } ∷
+    record { kinds = (14 ∷ 2 ∷ 3 ∷ 4 ∷ 7 ∷ 28 ∷ 31 ∷ 33 ∷ 35 ∷ 36 ∷ 37 ∷ 44 ∷ 46 ∷ 51 ∷ 53 ∷ 55 ∷ 57 ∷ 60 ∷ 64 ∷ 76 ∷ 80 ∷ 82 ∷ 84 ∷ 88 ∷ 90 ∷ 94 ∷ 96 ∷ 100 ∷ 102 ∷ 104 ∷ 106 ∷ 110 ∷ 112 ∷ 116 ∷ 120 ∷ 124 ∷ 128 ∷ 132 ∷ []); openers = (8 ∷ 1 ∷ 38 ∷ 49 ∷ 72 ∷ []); suffixes = (24 ∷ 77 ∷ 85 ∷ 91 ∷ 97 ∷ 107 ∷ 113 ∷ 117 ∷ 121 ∷ 125 ∷ 129 ∷ []); firsts = (cl.Ident ∷ cl.IdentColon ∷ cl.TypedefName ∷ cl.TypedefColon ∷ cl.Constant ∷ cl.String ∷ cl.LeftParen ∷ cl.TypeParen ∷ cl.LiteralParen ∷ cl.PlusPlus ∷ cl.MinusMinus ∷ cl.Ampersand ∷ cl.Star ∷ cl.Plus ∷ cl.Minus ∷ cl.Tilde ∷ cl.Bang ∷ cl.Sizeof ∷ cl.Alignof ∷ cl.Generic ∷ []); goes = (cl.String ∷ cl.LeftParen ∷ cl.TypeParen ∷ cl.LiteralParen ∷ cl.LeftBracket ∷ cl.Dot ∷ cl.Arrow ∷ cl.PlusPlus ∷ cl.MinusMinus ∷ cl.Ampersand ∷ cl.Star ∷ cl.Plus ∷ cl.Minus ∷ cl.Slash ∷ cl.Percent ∷ cl.ShiftLeft ∷ cl.ShiftRight ∷ cl.Less ∷ cl.Greater ∷ cl.LessEqual ∷ cl.GreaterEqual ∷ cl.EqualEqual ∷ cl.BangEqual ∷ cl.Caret ∷ cl.Bar ∷ cl.AndAnd ∷ cl.OrOr ∷ []); shuns = None; flat = true } ∷
     -- ConditionalExpression
-    record { kinds = (138 ∷ 132 ∷ 128 ∷ 124 ∷ 120 ∷ 116 ∷ 110 ∷ 112 ∷ 100 ∷ 102 ∷ 104 ∷ 106 ∷ 94 ∷ 96 ∷ 88 ∷ 90 ∷ 80 ∷ 82 ∷ 84 ∷ 76 ∷ 51 ∷ 53 ∷ 55 ∷ 57 ∷ 60 ∷ 64 ∷ 28 ∷ 31 ∷ 33 ∷ 35 ∷ 36 ∷ 37 ∷ 44 ∷ 46 ∷ 2 ∷ 3 ∷ 4 ∷ 7 ∷ 14 ∷ []); openers = (72 ∷ 49 ∷ 38 ∷ 1 ∷ 8 ∷ []); suffixes = (133 ∷ 129 ∷ 125 ∷ 121 ∷ 117 ∷ 113 ∷ 107 ∷ 97 ∷ 91 ∷ 85 ∷ 77 ∷ 24 ∷ []); firsts = (cl.Ident ∷ cl.IdentColon ∷ cl.TypedefName ∷ cl.TypedefColon ∷ cl.Constant ∷ cl.String ∷ cl.LeftParen ∷ cl.TypeParen ∷ cl.LiteralParen ∷ cl.PlusPlus ∷ cl.MinusMinus ∷ cl.Ampersand ∷ cl.Star ∷ cl.Plus ∷ cl.Minus ∷ cl.Tilde ∷ cl.Bang ∷ cl.Sizeof ∷ cl.Alignof ∷ cl.Generic ∷ []); goes = (cl.String ∷ cl.LeftParen ∷ cl.TypeParen ∷ cl.LiteralParen ∷ cl.LeftBracket ∷ cl.Dot ∷ cl.Arrow ∷ cl.PlusPlus ∷ cl.MinusMinus ∷ cl.Ampersand ∷ cl.Star ∷ cl.Plus ∷ cl.Minus ∷ cl.Slash ∷ cl.Percent ∷ cl.ShiftLeft ∷ cl.ShiftRight ∷ cl.Less ∷ cl.Greater ∷ cl.LessEqual ∷ cl.GreaterEqual ∷ cl.EqualEqual ∷ cl.BangEqual ∷ cl.Caret ∷ cl.Bar ∷ cl.AndAnd ∷ cl.OrOr ∷ cl.Question ∷ []); shuns = None; flat = true } ∷
+    record { kinds = (14 ∷ 2 ∷ 3 ∷ 4 ∷ 7 ∷ 28 ∷ 31 ∷ 33 ∷ 35 ∷ 36 ∷ 37 ∷ 44 ∷ 46 ∷ 51 ∷ 53 ∷ 55 ∷ 57 ∷ 60 ∷ 64 ∷ 76 ∷ 80 ∷ 82 ∷ 84 ∷ 88 ∷ 90 ∷ 94 ∷ 96 ∷ 100 ∷ 102 ∷ 104 ∷ 106 ∷ 110 ∷ 112 ∷ 116 ∷ 120 ∷ 124 ∷ 128 ∷ 132 ∷ 138 ∷ []); openers = (8 ∷ 1 ∷ 38 ∷ 49 ∷ 72 ∷ []); suffixes = (24 ∷ 77 ∷ 85 ∷ 91 ∷ 97 ∷ 107 ∷ 113 ∷ 117 ∷ 121 ∷ 125 ∷ 129 ∷ 133 ∷ []); firsts = (cl.Ident ∷ cl.IdentColon ∷ cl.TypedefName ∷ cl.TypedefColon ∷ cl.Constant ∷ cl.String ∷ cl.LeftParen ∷ cl.TypeParen ∷ cl.LiteralParen ∷ cl.PlusPlus ∷ cl.MinusMinus ∷ cl.Ampersand ∷ cl.Star ∷ cl.Plus ∷ cl.Minus ∷ cl.Tilde ∷ cl.Bang ∷ cl.Sizeof ∷ cl.Alignof ∷ cl.Generic ∷ []); goes = (cl.String ∷ cl.LeftParen ∷ cl.TypeParen ∷ cl.LiteralParen ∷ cl.LeftBracket ∷ cl.Dot ∷ cl.Arrow ∷ cl.PlusPlus ∷ cl.MinusMinus ∷ cl.Ampersand ∷ cl.Star ∷ cl.Plus ∷ cl.Minus ∷ cl.Slash ∷ cl.Percent ∷ cl.ShiftLeft ∷ cl.ShiftRight ∷ cl.Less ∷ cl.Greater ∷ cl.LessEqual ∷ cl.GreaterEqual ∷ cl.EqualEqual ∷ cl.BangEqual ∷ cl.Caret ∷ cl.Bar ∷ cl.AndAnd ∷ cl.OrOr ∷ cl.Question ∷ []); shuns = None; flat = true } ∷
     -- AssignmentExpression
-    record { kinds = (142 ∷ 138 ∷ 132 ∷ 128 ∷ 124 ∷ 120 ∷ 116 ∷ 110 ∷ 112 ∷ 100 ∷ 102 ∷ 104 ∷ 106 ∷ 94 ∷ 96 ∷ 88 ∷ 90 ∷ 80 ∷ 82 ∷ 84 ∷ 76 ∷ 51 ∷ 53 ∷ 55 ∷ 57 ∷ 60 ∷ 64 ∷ 28 ∷ 31 ∷ 33 ∷ 35 ∷ 36 ∷ 37 ∷ 44 ∷ 46 ∷ 2 ∷ 3 ∷ 4 ∷ 7 ∷ 14 ∷ []); openers = (49 ∷ 38 ∷ 1 ∷ 8 ∷ 72 ∷ []); suffixes = (139 ∷ 24 ∷ 133 ∷ 129 ∷ 125 ∷ 121 ∷ 117 ∷ 113 ∷ 107 ∷ 97 ∷ 91 ∷ 85 ∷ 77 ∷ []); firsts = (cl.Ident ∷ cl.IdentColon ∷ cl.TypedefName ∷ cl.TypedefColon ∷ cl.Constant ∷ cl.String ∷ cl.LeftParen ∷ cl.TypeParen ∷ cl.LiteralParen ∷ cl.PlusPlus ∷ cl.MinusMinus ∷ cl.Ampersand ∷ cl.Star ∷ cl.Plus ∷ cl.Minus ∷ cl.Tilde ∷ cl.Bang ∷ cl.Sizeof ∷ cl.Alignof ∷ cl.Generic ∷ []); goes = (cl.String ∷ cl.LeftParen ∷ cl.TypeParen ∷ cl.LiteralParen ∷ cl.LeftBracket ∷ cl.Dot ∷ cl.Arrow ∷ cl.PlusPlus ∷ cl.MinusMinus ∷ cl.Ampersand ∷ cl.Star ∷ cl.Plus ∷ cl.Minus ∷ cl.Slash ∷ cl.Percent ∷ cl.ShiftLeft ∷ cl.ShiftRight ∷ cl.Less ∷ cl.Greater ∷ cl.LessEqual ∷ cl.GreaterEqual ∷ cl.EqualEqual ∷ cl.BangEqual ∷ cl.Caret ∷ cl.Bar ∷ cl.AndAnd ∷ cl.OrOr ∷ cl.Question ∷ cl.Equal ∷ cl.StarEqual ∷ cl.SlashEqual ∷ cl.PercentEqual ∷ cl.PlusEqual ∷ cl.MinusEqual ∷ cl.ShiftLeftEqual ∷ cl.ShiftRightEqual ∷ cl.AmpersandEqual ∷ cl.CaretEqual ∷ cl.BarEqual ∷ []); shuns = None; flat = true } ∷
+    record { kinds = (14 ∷ 2 ∷ 3 ∷ 4 ∷ 7 ∷ 28 ∷ 31 ∷ 33 ∷ 35 ∷ 36 ∷ 37 ∷ 44 ∷ 46 ∷ 51 ∷ 53 ∷ 55 ∷ 57 ∷ 60 ∷ 64 ∷ 76 ∷ 80 ∷ 82 ∷ 84 ∷ 88 ∷ 90 ∷ 94 ∷ 96 ∷ 100 ∷ 102 ∷ 104 ∷ 106 ∷ 110 ∷ 112 ∷ 116 ∷ 120 ∷ 124 ∷ 128 ∷ 132 ∷ 138 ∷ 142 ∷ []); openers = (8 ∷ 1 ∷ 38 ∷ 49 ∷ 72 ∷ []); suffixes = (24 ∷ 77 ∷ 85 ∷ 91 ∷ 97 ∷ 107 ∷ 113 ∷ 117 ∷ 121 ∷ 125 ∷ 129 ∷ 133 ∷ 139 ∷ []); firsts = (cl.Ident ∷ cl.IdentColon ∷ cl.TypedefName ∷ cl.TypedefColon ∷ cl.Constant ∷ cl.String ∷ cl.LeftParen ∷ cl.TypeParen ∷ cl.LiteralParen ∷ cl.PlusPlus ∷ cl.MinusMinus ∷ cl.Ampersand ∷ cl.Star ∷ cl.Plus ∷ cl.Minus ∷ cl.Tilde ∷ cl.Bang ∷ cl.Sizeof ∷ cl.Alignof ∷ cl.Generic ∷ []); goes = (cl.String ∷ cl.LeftParen ∷ cl.TypeParen ∷ cl.LiteralParen ∷ cl.LeftBracket ∷ cl.Dot ∷ cl.Arrow ∷ cl.PlusPlus ∷ cl.MinusMinus ∷ cl.Ampersand ∷ cl.Star ∷ cl.Plus ∷ cl.Minus ∷ cl.Slash ∷ cl.Percent ∷ cl.ShiftLeft ∷ cl.ShiftRight ∷ cl.Less ∷ cl.Greater ∷ cl.LessEqual ∷ cl.GreaterEqual ∷ cl.EqualEqual ∷ cl.BangEqual ∷ cl.Caret ∷ cl.Bar ∷ cl.AndAnd ∷ cl.OrOr ∷ cl.Question ∷ cl.Equal ∷ cl.StarEqual ∷ cl.SlashEqual ∷ cl.PercentEqual ∷ cl.PlusEqual ∷ cl.MinusEqual ∷ cl.ShiftLeftEqual ∷ cl.ShiftRightEqual ∷ cl.AmpersandEqual ∷ cl.CaretEqual ∷ cl.BarEqual ∷ []); shuns = None; flat = true } ∷
     -- AssignmentOperator
     record { kinds = (144 ∷ 145 ∷ 146 ∷ 147 ∷ 148 ∷ 149 ∷ 150 ∷ 151 ∷ 152 ∷ 153 ∷ 154 ∷ []); openers = (143 ∷ []); suffixes = []; firsts = (cl.Equal ∷ cl.StarEqual ∷ cl.SlashEqual ∷ cl.PercentEqual ∷ cl.PlusEqual ∷ cl.MinusEqual ∷ cl.ShiftLeftEqual ∷ cl.ShiftRightEqual ∷ cl.AmpersandEqual ∷ cl.CaretEqual ∷ cl.BarEqual ∷ []); goes = []; shuns = None; flat = true } ∷
     -- Expression
-    record { kinds = (158 ∷ 142 ∷ 138 ∷ 132 ∷ 128 ∷ 124 ∷ 120 ∷ 116 ∷ 110 ∷ 112 ∷ 100 ∷ 102 ∷ 104 ∷ 106 ∷ 94 ∷ 96 ∷ 88 ∷ 90 ∷ 80 ∷ 82 ∷ 84 ∷ 76 ∷ 51 ∷ 53 ∷ 55 ∷ 57 ∷ 60 ∷ 64 ∷ 28 ∷ 31 ∷ 33 ∷ 35 ∷ 36 ∷ 37 ∷ 44 ∷ 46 ∷ 2 ∷ 3 ∷ 4 ∷ 7 ∷ 14 ∷ []); openers = (49 ∷ 38 ∷ 1 ∷ 8 ∷ 72 ∷ []); suffixes = (155 ∷ 139 ∷ 24 ∷ 133 ∷ 129 ∷ 125 ∷ 121 ∷ 117 ∷ 113 ∷ 107 ∷ 97 ∷ 91 ∷ 85 ∷ 77 ∷ []); firsts = (cl.Ident ∷ cl.IdentColon ∷ cl.TypedefName ∷ cl.TypedefColon ∷ cl.Constant ∷ cl.String ∷ cl.LeftParen ∷ cl.TypeParen ∷ cl.LiteralParen ∷ cl.PlusPlus ∷ cl.MinusMinus ∷ cl.Ampersand ∷ cl.Star ∷ cl.Plus ∷ cl.Minus ∷ cl.Tilde ∷ cl.Bang ∷ cl.Sizeof ∷ cl.Alignof ∷ cl.Generic ∷ []); goes = (cl.String ∷ cl.LeftParen ∷ cl.TypeParen ∷ cl.LiteralParen ∷ cl.LeftBracket ∷ cl.Dot ∷ cl.Arrow ∷ cl.PlusPlus ∷ cl.MinusMinus ∷ cl.Ampersand ∷ cl.Star ∷ cl.Plus ∷ cl.Minus ∷ cl.Slash ∷ cl.Percent ∷ cl.ShiftLeft ∷ cl.ShiftRight ∷ cl.Less ∷ cl.Greater ∷ cl.LessEqual ∷ cl.GreaterEqual ∷ cl.EqualEqual ∷ cl.BangEqual ∷ cl.Caret ∷ cl.Bar ∷ cl.AndAnd ∷ cl.OrOr ∷ cl.Question ∷ cl.Comma ∷ cl.Equal ∷ cl.StarEqual ∷ cl.SlashEqual ∷ cl.PercentEqual ∷ cl.PlusEqual ∷ cl.MinusEqual ∷ cl.ShiftLeftEqual ∷ cl.ShiftRightEqual ∷ cl.AmpersandEqual ∷ cl.CaretEqual ∷ cl.BarEqual ∷ []); shuns = None; flat = true } ∷
+    record { kinds = (14 ∷ 2 ∷ 3 ∷ 4 ∷ 7 ∷ 28 ∷ 31 ∷ 33 ∷ 35 ∷ 36 ∷ 37 ∷ 44 ∷ 46 ∷ 51 ∷ 53 ∷ 55 ∷ 57 ∷ 60 ∷ 64 ∷ 76 ∷ 80 ∷ 82 ∷ 84 ∷ 88 ∷ 90 ∷ 94 ∷ 96 ∷ 100 ∷ 102 ∷ 104 ∷ 106 ∷ 110 ∷ 112 ∷ 116 ∷ 120 ∷ 124 ∷ 128 ∷ 132 ∷ 138 ∷ 142 ∷ 158 ∷ []); openers = (8 ∷ 1 ∷ 38 ∷ 49 ∷ 72 ∷ []); suffixes = (24 ∷ 77 ∷ 85 ∷ 91 ∷ 97 ∷ 107 ∷ 113 ∷ 117 ∷ 121 ∷ 125 ∷ 129 ∷ 133 ∷ 139 ∷ 155 ∷ []); firsts = (cl.Ident ∷ cl.IdentColon ∷ cl.TypedefName ∷ cl.TypedefColon ∷ cl.Constant ∷ cl.String ∷ cl.LeftParen ∷ cl.TypeParen ∷ cl.LiteralParen ∷ cl.PlusPlus ∷ cl.MinusMinus ∷ cl.Ampersand ∷ cl.Star ∷ cl.Plus ∷ cl.Minus ∷ cl.Tilde ∷ cl.Bang ∷ cl.Sizeof ∷ cl.Alignof ∷ cl.Generic ∷ []); goes = (cl.String ∷ cl.LeftParen ∷ cl.TypeParen ∷ cl.LiteralParen ∷ cl.LeftBracket ∷ cl.Dot ∷ cl.Arrow ∷ cl.PlusPlus ∷ cl.MinusMinus ∷ cl.Ampersand ∷ cl.Star ∷ cl.Plus ∷ cl.Minus ∷ cl.Slash ∷ cl.Percent ∷ cl.ShiftLeft ∷ cl.ShiftRight ∷ cl.Less ∷ cl.Greater ∷ cl.LessEqual ∷ cl.GreaterEqual ∷ cl.EqualEqual ∷ cl.BangEqual ∷ cl.Caret ∷ cl.Bar ∷ cl.AndAnd ∷ cl.OrOr ∷ cl.Question ∷ cl.Comma ∷ cl.Equal ∷ cl.StarEqual ∷ cl.SlashEqual ∷ cl.PercentEqual ∷ cl.PlusEqual ∷ cl.MinusEqual ∷ cl.ShiftLeftEqual ∷ cl.ShiftRightEqual ∷ cl.AmpersandEqual ∷ cl.CaretEqual ∷ cl.BarEqual ∷ []); shuns = None; flat = true } ∷
     -- ConstantExpression
-    record { kinds = (138 ∷ 132 ∷ 128 ∷ 124 ∷ 120 ∷ 116 ∷ 110 ∷ 112 ∷ 100 ∷ 102 ∷ 104 ∷ 106 ∷ 94 ∷ 96 ∷ 88 ∷ 90 ∷ 80 ∷ 82 ∷ 84 ∷ 76 ∷ 51 ∷ 53 ∷ 55 ∷ 57 ∷ 60 ∷ 64 ∷ 28 ∷ 31 ∷ 33 ∷ 35 ∷ 36 ∷ 37 ∷ 44 ∷ 46 ∷ 2 ∷ 3 ∷ 4 ∷ 7 ∷ 14 ∷ []); openers = (72 ∷ 49 ∷ 38 ∷ 1 ∷ 8 ∷ []); suffixes = (133 ∷ 129 ∷ 125 ∷ 121 ∷ 117 ∷ 113 ∷ 107 ∷ 97 ∷ 91 ∷ 85 ∷ 77 ∷ 24 ∷ []); firsts = (cl.Ident ∷ cl.IdentColon ∷ cl.TypedefName ∷ cl.TypedefColon ∷ cl.Constant ∷ cl.String ∷ cl.LeftParen ∷ cl.TypeParen ∷ cl.LiteralParen ∷ cl.PlusPlus ∷ cl.MinusMinus ∷ cl.Ampersand ∷ cl.Star ∷ cl.Plus ∷ cl.Minus ∷ cl.Tilde ∷ cl.Bang ∷ cl.Sizeof ∷ cl.Alignof ∷ cl.Generic ∷ []); goes = (cl.String ∷ cl.LeftParen ∷ cl.TypeParen ∷ cl.LiteralParen ∷ cl.LeftBracket ∷ cl.Dot ∷ cl.Arrow ∷ cl.PlusPlus ∷ cl.MinusMinus ∷ cl.Ampersand ∷ cl.Star ∷ cl.Plus ∷ cl.Minus ∷ cl.Slash ∷ cl.Percent ∷ cl.ShiftLeft ∷ cl.ShiftRight ∷ cl.Less ∷ cl.Greater ∷ cl.LessEqual ∷ cl.GreaterEqual ∷ cl.EqualEqual ∷ cl.BangEqual ∷ cl.Caret ∷ cl.Bar ∷ cl.AndAnd ∷ cl.OrOr ∷ cl.Question ∷ []); shuns = None; flat = true } ∷
+    record { kinds = (14 ∷ 2 ∷ 3 ∷ 4 ∷ 7 ∷ 28 ∷ 31 ∷ 33 ∷ 35 ∷ 36 ∷ 37 ∷ 44 ∷ 46 ∷ 51 ∷ 53 ∷ 55 ∷ 57 ∷ 60 ∷ 64 ∷ 76 ∷ 80 ∷ 82 ∷ 84 ∷ 88 ∷ 90 ∷ 94 ∷ 96 ∷ 100 ∷ 102 ∷ 104 ∷ 106 ∷ 110 ∷ 112 ∷ 116 ∷ 120 ∷ 124 ∷ 128 ∷ 132 ∷ 138 ∷ []); openers = (8 ∷ 1 ∷ 38 ∷ 49 ∷ 72 ∷ []); suffixes = (24 ∷ 77 ∷ 85 ∷ 91 ∷ 97 ∷ 107 ∷ 113 ∷ 117 ∷ 121 ∷ 125 ∷ 129 ∷ 133 ∷ []); firsts = (cl.Ident ∷ cl.IdentColon ∷ cl.TypedefName ∷ cl.TypedefColon ∷ cl.Constant ∷ cl.String ∷ cl.LeftParen ∷ cl.TypeParen ∷ cl.LiteralParen ∷ cl.PlusPlus ∷ cl.MinusMinus ∷ cl.Ampersand ∷ cl.Star ∷ cl.Plus ∷ cl.Minus ∷ cl.Tilde ∷ cl.Bang ∷ cl.Sizeof ∷ cl.Alignof ∷ cl.Generic ∷ []); goes = (cl.String ∷ cl.LeftParen ∷ cl.TypeParen ∷ cl.LiteralParen ∷ cl.LeftBracket ∷ cl.Dot ∷ cl.Arrow ∷ cl.PlusPlus ∷ cl.MinusMinus ∷ cl.Ampersand ∷ cl.Star ∷ cl.Plus ∷ cl.Minus ∷ cl.Slash ∷ cl.Percent ∷ cl.ShiftLeft ∷ cl.ShiftRight ∷ cl.Less ∷ cl.Greater ∷ cl.LessEqual ∷ cl.GreaterEqual ∷ cl.EqualEqual ∷ cl.BangEqual ∷ cl.Caret ∷ cl.Bar ∷ cl.AndAnd ∷ cl.OrOr ∷ cl.Question ∷ []); shuns = None; flat = true } ∷
     -- Declaration
-    record { kinds = (162 ∷ 403 ∷ []); openers = (159 ∷ 396 ∷ []); suffixes = []; firsts = (cl.TypedefName ∷ cl.TypedefColon ∷ cl.StaticAssert ∷ cl.Typedef ∷ cl.Extern ∷ cl.Static ∷ cl.ThreadLocal ∷ cl.Auto ∷ cl.Register ∷ cl.Void ∷ cl.Char ∷ cl.Short ∷ cl.Int ∷ cl.Long ∷ cl.Float ∷ cl.Double ∷ cl.Signed ∷ cl.Unsigned ∷ cl.Bool ∷ cl.Struct ∷ cl.Union ∷ cl.Enum ∷ cl.Const ∷ cl.Restrict ∷ cl.Volatile ∷ cl.Atomic ∷ cl.AtomicParen ∷ cl.Inline ∷ cl.Noreturn ∷ cl.Alignas ∷ []); goes = []; shuns = None; flat = true } ∷
+    record { kinds = (403 ∷ 162 ∷ []); openers = (396 ∷ 159 ∷ []); suffixes = []; firsts = (cl.TypedefName ∷ cl.TypedefColon ∷ cl.StaticAssert ∷ cl.Typedef ∷ cl.Extern ∷ cl.Static ∷ cl.ThreadLocal ∷ cl.Auto ∷ cl.Register ∷ cl.Void ∷ cl.Char ∷ cl.Short ∷ cl.Int ∷ cl.Long ∷ cl.Float ∷ cl.Double ∷ cl.Signed ∷ cl.Unsigned ∷ cl.Bool ∷ cl.Struct ∷ cl.Union ∷ cl.Enum ∷ cl.Const ∷ cl.Restrict ∷ cl.Volatile ∷ cl.Atomic ∷ cl.AtomicParen ∷ cl.Inline ∷ cl.Noreturn ∷ cl.Alignas ∷ []); goes = []; shuns = None; flat = true } ∷
     -- DeclarationSpecifiers
     record { kinds = (164 ∷ 165 ∷ []); openers = (163 ∷ []); suffixes = []; firsts = (cl.TypedefName ∷ cl.TypedefColon ∷ cl.Typedef ∷ cl.Extern ∷ cl.Static ∷ cl.ThreadLocal ∷ cl.Auto ∷ cl.Register ∷ cl.Void ∷ cl.Char ∷ cl.Short ∷ cl.Int ∷ cl.Long ∷ cl.Float ∷ cl.Double ∷ cl.Signed ∷ cl.Unsigned ∷ cl.Bool ∷ cl.Struct ∷ cl.Union ∷ cl.Enum ∷ cl.Const ∷ cl.Restrict ∷ cl.Volatile ∷ cl.Atomic ∷ cl.AtomicParen ∷ cl.Inline ∷ cl.Noreturn ∷ cl.Alignas ∷ []); goes = (cl.LeftBrace ∷ cl.Typedef ∷ cl.Extern ∷ cl.Static ∷ cl.ThreadLocal ∷ cl.Auto ∷ cl.Register ∷ cl.Void ∷ cl.Char ∷ cl.Short ∷ cl.Int ∷ cl.Long ∷ cl.Float ∷ cl.Double ∷ cl.Signed ∷ cl.Unsigned ∷ cl.Bool ∷ cl.Struct ∷ cl.Union ∷ cl.Enum ∷ cl.Const ∷ cl.Restrict ∷ cl.Volatile ∷ cl.Atomic ∷ cl.AtomicParen ∷ cl.Inline ∷ cl.Noreturn ∷ cl.Alignas ∷ []); shuns = None; flat = true } ∷
     -- InitDeclaratorList
     record { kinds = (167 ∷ []); openers = (166 ∷ []); suffixes = []; firsts = (cl.Ident ∷ cl.IdentColon ∷ cl.TypedefName ∷ cl.TypedefColon ∷ cl.LeftParen ∷ cl.TypeParen ∷ cl.LiteralParen ∷ cl.Star ∷ []); goes = (cl.String ∷ cl.LeftParen ∷ cl.TypeParen ∷ cl.LiteralParen ∷ cl.LeftBracket ∷ cl.Dot ∷ cl.Arrow ∷ cl.PlusPlus ∷ cl.MinusMinus ∷ cl.Ampersand ∷ cl.Star ∷ cl.Plus ∷ cl.Minus ∷ cl.Slash ∷ cl.Percent ∷ cl.ShiftLeft ∷ cl.ShiftRight ∷ cl.Less ∷ cl.Greater ∷ cl.LessEqual ∷ cl.GreaterEqual ∷ cl.EqualEqual ∷ cl.BangEqual ∷ cl.Caret ∷ cl.Bar ∷ cl.AndAnd ∷ cl.OrOr ∷ cl.Question ∷ cl.Comma ∷ cl.Equal ∷ cl.StarEqual ∷ cl.SlashEqual ∷ cl.PercentEqual ∷ cl.PlusEqual ∷ cl.MinusEqual ∷ cl.ShiftLeftEqual ∷ cl.ShiftRightEqual ∷ cl.AmpersandEqual ∷ cl.CaretEqual ∷ cl.BarEqual ∷ []); shuns = None; flat = true } ∷
     -- InitDeclarator
-    record { kinds = (171 ∷ 254 ∷ 256 ∷ 259 ∷ 265 ∷ 268 ∷ 270 ∷ 274 ∷ 277 ∷ 280 ∷ []); openers = (332 ∷ 255 ∷ []); suffixes = (168 ∷ 252 ∷ 260 ∷ []); firsts = (cl.Ident ∷ cl.IdentColon ∷ cl.TypedefName ∷ cl.TypedefColon ∷ cl.LeftParen ∷ cl.TypeParen ∷ cl.LiteralParen ∷ cl.Star ∷ []); goes = (cl.String ∷ cl.LeftParen ∷ cl.TypeParen ∷ cl.LiteralParen ∷ cl.LeftBracket ∷ cl.Dot ∷ cl.Arrow ∷ cl.PlusPlus ∷ cl.MinusMinus ∷ cl.Ampersand ∷ cl.Star ∷ cl.Plus ∷ cl.Minus ∷ cl.Slash ∷ cl.Percent ∷ cl.ShiftLeft ∷ cl.ShiftRight ∷ cl.Less ∷ cl.Greater ∷ cl.LessEqual ∷ cl.GreaterEqual ∷ cl.EqualEqual ∷ cl.BangEqual ∷ cl.Caret ∷ cl.Bar ∷ cl.AndAnd ∷ cl.OrOr ∷ cl.Question ∷ cl.Equal ∷ cl.StarEqual ∷ cl.SlashEqual ∷ cl.PercentEqual ∷ cl.PlusEqual ∷ cl.MinusEqual ∷ cl.ShiftLeftEqual ∷ cl.ShiftRightEqual ∷ cl.AmpersandEqual ∷ cl.CaretEqual ∷ cl.BarEqual ∷ []); shuns = None; flat = true } ∷
+    record { kinds = (256 ∷ 259 ∷ 265 ∷ 268 ∷ 270 ∷ 274 ∷ 277 ∷ 280 ∷ 254 ∷ 171 ∷ []); openers = (255 ∷ 332 ∷ []); suffixes = (260 ∷ 252 ∷ 168 ∷ []); firsts = (cl.Ident ∷ cl.IdentColon ∷ cl.TypedefName ∷ cl.TypedefColon ∷ cl.LeftParen ∷ cl.TypeParen ∷ cl.LiteralParen ∷ cl.Star ∷ []); goes = (cl.String ∷ cl.LeftParen ∷ cl.TypeParen ∷ cl.LiteralParen ∷ cl.LeftBracket ∷ cl.Dot ∷ cl.Arrow ∷ cl.PlusPlus ∷ cl.MinusMinus ∷ cl.Ampersand ∷ cl.Star ∷ cl.Plus ∷ cl.Minus ∷ cl.Slash ∷ cl.Percent ∷ cl.ShiftLeft ∷ cl.ShiftRight ∷ cl.Less ∷ cl.Greater ∷ cl.LessEqual ∷ cl.GreaterEqual ∷ cl.EqualEqual ∷ cl.BangEqual ∷ cl.Caret ∷ cl.Bar ∷ cl.AndAnd ∷ cl.OrOr ∷ cl.Question ∷ cl.Equal ∷ cl.StarEqual ∷ cl.SlashEqual ∷ cl.PercentEqual ∷ cl.PlusEqual ∷ cl.MinusEqual ∷ cl.ShiftLeftEqual ∷ cl.ShiftRightEqual ∷ cl.AmpersandEqual ∷ cl.CaretEqual ∷ cl.BarEqual ∷ []); shuns = None; flat = true } ∷
     -- StorageClassSpecifier
     record { kinds = (173 ∷ 174 ∷ 175 ∷ 176 ∷ 177 ∷ 178 ∷ []); openers = (172 ∷ []); suffixes = []; firsts = (cl.Typedef ∷ cl.Extern ∷ cl.Static ∷ cl.ThreadLocal ∷ cl.Auto ∷ cl.Register ∷ []); goes = []; shuns = None; flat = true } ∷
     -- TypeSpecifier
-    record { kinds = (180 ∷ 181 ∷ 182 ∷ 183 ∷ 184 ∷ 185 ∷ 186 ∷ 187 ∷ 188 ∷ 189 ∷ 235 ∷ 192 ∷ 195 ∷ 219 ∷ 222 ∷ 224 ∷ 375 ∷ []); openers = (179 ∷ 231 ∷ 190 ∷ 217 ∷ 374 ∷ []); suffixes = []; firsts = (cl.TypedefName ∷ cl.TypedefColon ∷ cl.Void ∷ cl.Char ∷ cl.Short ∷ cl.Int ∷ cl.Long ∷ cl.Float ∷ cl.Double ∷ cl.Signed ∷ cl.Unsigned ∷ cl.Bool ∷ cl.Struct ∷ cl.Union ∷ cl.Enum ∷ cl.AtomicParen ∷ []); goes = (cl.LeftBrace ∷ []); shuns = None; flat = true } ∷
+    record { kinds = (235 ∷ 192 ∷ 195 ∷ 219 ∷ 222 ∷ 224 ∷ 180 ∷ 181 ∷ 182 ∷ 183 ∷ 184 ∷ 185 ∷ 186 ∷ 187 ∷ 188 ∷ 189 ∷ 375 ∷ []); openers = (231 ∷ 190 ∷ 217 ∷ 179 ∷ 374 ∷ []); suffixes = []; firsts = (cl.TypedefName ∷ cl.TypedefColon ∷ cl.Void ∷ cl.Char ∷ cl.Short ∷ cl.Int ∷ cl.Long ∷ cl.Float ∷ cl.Double ∷ cl.Signed ∷ cl.Unsigned ∷ cl.Bool ∷ cl.Struct ∷ cl.Union ∷ cl.Enum ∷ cl.AtomicParen ∷ []); goes = (cl.LeftBrace ∷ []); shuns = None; flat = true } ∷
     -- StructOrUnionSpecifier
     record { kinds = (192 ∷ 195 ∷ []); openers = (190 ∷ []); suffixes = []; firsts = (cl.Struct ∷ cl.Union ∷ []); goes = (cl.LeftBrace ∷ []); shuns = None; flat = true } ∷
     -- StructOrUnion
@@ -1172,13 +1172,13 @@ goals =
     -- StructDeclarationList
     record { kinds = (200 ∷ []); openers = (199 ∷ []); suffixes = []; firsts = (cl.TypedefName ∷ cl.TypedefColon ∷ cl.StaticAssert ∷ cl.Void ∷ cl.Char ∷ cl.Short ∷ cl.Int ∷ cl.Long ∷ cl.Float ∷ cl.Double ∷ cl.Signed ∷ cl.Unsigned ∷ cl.Bool ∷ cl.Struct ∷ cl.Union ∷ cl.Enum ∷ cl.Const ∷ cl.Restrict ∷ cl.Volatile ∷ cl.Atomic ∷ cl.AtomicParen ∷ []); goes = (cl.TypedefName ∷ cl.TypedefColon ∷ cl.StaticAssert ∷ cl.Void ∷ cl.Char ∷ cl.Short ∷ cl.Int ∷ cl.Long ∷ cl.Float ∷ cl.Double ∷ cl.Signed ∷ cl.Unsigned ∷ cl.Bool ∷ cl.Struct ∷ cl.Union ∷ cl.Enum ∷ cl.Const ∷ cl.Restrict ∷ cl.Volatile ∷ cl.Atomic ∷ cl.AtomicParen ∷ []); shuns = None; flat = true } ∷
     -- StructDeclaration
-    record { kinds = (204 ∷ 403 ∷ []); openers = (201 ∷ 396 ∷ []); suffixes = []; firsts = (cl.TypedefName ∷ cl.TypedefColon ∷ cl.StaticAssert ∷ cl.Void ∷ cl.Char ∷ cl.Short ∷ cl.Int ∷ cl.Long ∷ cl.Float ∷ cl.Double ∷ cl.Signed ∷ cl.Unsigned ∷ cl.Bool ∷ cl.Struct ∷ cl.Union ∷ cl.Enum ∷ cl.Const ∷ cl.Restrict ∷ cl.Volatile ∷ cl.Atomic ∷ cl.AtomicParen ∷ []); goes = []; shuns = None; flat = true } ∷
+    record { kinds = (403 ∷ 204 ∷ []); openers = (396 ∷ 201 ∷ []); suffixes = []; firsts = (cl.TypedefName ∷ cl.TypedefColon ∷ cl.StaticAssert ∷ cl.Void ∷ cl.Char ∷ cl.Short ∷ cl.Int ∷ cl.Long ∷ cl.Float ∷ cl.Double ∷ cl.Signed ∷ cl.Unsigned ∷ cl.Bool ∷ cl.Struct ∷ cl.Union ∷ cl.Enum ∷ cl.Const ∷ cl.Restrict ∷ cl.Volatile ∷ cl.Atomic ∷ cl.AtomicParen ∷ []); goes = []; shuns = None; flat = true } ∷
     -- SpecifierQualifierList
     record { kinds = (206 ∷ 207 ∷ []); openers = (205 ∷ []); suffixes = []; firsts = (cl.TypedefName ∷ cl.TypedefColon ∷ cl.Void ∷ cl.Char ∷ cl.Short ∷ cl.Int ∷ cl.Long ∷ cl.Float ∷ cl.Double ∷ cl.Signed ∷ cl.Unsigned ∷ cl.Bool ∷ cl.Struct ∷ cl.Union ∷ cl.Enum ∷ cl.Const ∷ cl.Restrict ∷ cl.Volatile ∷ cl.Atomic ∷ cl.AtomicParen ∷ []); goes = (cl.LeftBrace ∷ cl.Void ∷ cl.Char ∷ cl.Short ∷ cl.Int ∷ cl.Long ∷ cl.Float ∷ cl.Double ∷ cl.Signed ∷ cl.Unsigned ∷ cl.Bool ∷ cl.Struct ∷ cl.Union ∷ cl.Enum ∷ cl.Const ∷ cl.Restrict ∷ cl.Volatile ∷ cl.Atomic ∷ cl.AtomicParen ∷ []); shuns = None; flat = true } ∷
     -- StructDeclaratorList
     record { kinds = (209 ∷ []); openers = (208 ∷ []); suffixes = []; firsts = (cl.Ident ∷ cl.IdentColon ∷ cl.TypedefName ∷ cl.TypedefColon ∷ cl.LeftParen ∷ cl.TypeParen ∷ cl.LiteralParen ∷ cl.Star ∷ cl.Colon ∷ []); goes = (cl.String ∷ cl.LeftParen ∷ cl.TypeParen ∷ cl.LiteralParen ∷ cl.LeftBracket ∷ cl.Dot ∷ cl.Arrow ∷ cl.PlusPlus ∷ cl.MinusMinus ∷ cl.Ampersand ∷ cl.Star ∷ cl.Plus ∷ cl.Minus ∷ cl.Slash ∷ cl.Percent ∷ cl.ShiftLeft ∷ cl.ShiftRight ∷ cl.Less ∷ cl.Greater ∷ cl.LessEqual ∷ cl.GreaterEqual ∷ cl.EqualEqual ∷ cl.BangEqual ∷ cl.Caret ∷ cl.Bar ∷ cl.AndAnd ∷ cl.OrOr ∷ cl.Question ∷ cl.Colon ∷ cl.Comma ∷ []); shuns = None; flat = true } ∷
     -- StructDeclarator
-    record { kinds = (213 ∷ 216 ∷ 254 ∷ 256 ∷ 259 ∷ 265 ∷ 268 ∷ 270 ∷ 274 ∷ 277 ∷ 280 ∷ []); openers = (332 ∷ 255 ∷ 214 ∷ []); suffixes = (210 ∷ 252 ∷ 260 ∷ []); firsts = (cl.Ident ∷ cl.IdentColon ∷ cl.TypedefName ∷ cl.TypedefColon ∷ cl.LeftParen ∷ cl.TypeParen ∷ cl.LiteralParen ∷ cl.Star ∷ cl.Colon ∷ []); goes = (cl.String ∷ cl.LeftParen ∷ cl.TypeParen ∷ cl.LiteralParen ∷ cl.LeftBracket ∷ cl.Dot ∷ cl.Arrow ∷ cl.PlusPlus ∷ cl.MinusMinus ∷ cl.Ampersand ∷ cl.Star ∷ cl.Plus ∷ cl.Minus ∷ cl.Slash ∷ cl.Percent ∷ cl.ShiftLeft ∷ cl.ShiftRight ∷ cl.Less ∷ cl.Greater ∷ cl.LessEqual ∷ cl.GreaterEqual ∷ cl.EqualEqual ∷ cl.BangEqual ∷ cl.Caret ∷ cl.Bar ∷ cl.AndAnd ∷ cl.OrOr ∷ cl.Question ∷ cl.Colon ∷ []); shuns = None; flat = true } ∷
+    record { kinds = (256 ∷ 259 ∷ 265 ∷ 268 ∷ 270 ∷ 274 ∷ 277 ∷ 280 ∷ 254 ∷ 213 ∷ 216 ∷ []); openers = (255 ∷ 332 ∷ 214 ∷ []); suffixes = (260 ∷ 252 ∷ 210 ∷ []); firsts = (cl.Ident ∷ cl.IdentColon ∷ cl.TypedefName ∷ cl.TypedefColon ∷ cl.LeftParen ∷ cl.TypeParen ∷ cl.LiteralParen ∷ cl.Star ∷ cl.Colon ∷ []); goes = (cl.String ∷ cl.LeftParen ∷ cl.TypeParen ∷ cl.LiteralParen ∷ cl.LeftBracket ∷ cl.Dot ∷ cl.Arrow ∷ cl.PlusPlus ∷ cl.MinusMinus ∷ cl.Ampersand ∷ cl.Star ∷ cl.Plus ∷ cl.Minus ∷ cl.Slash ∷ cl.Percent ∷ cl.ShiftLeft ∷ cl.ShiftRight ∷ cl.Less ∷ cl.Greater ∷ cl.LessEqual ∷ cl.GreaterEqual ∷ cl.EqualEqual ∷ cl.BangEqual ∷ cl.Caret ∷ cl.Bar ∷ cl.AndAnd ∷ cl.OrOr ∷ cl.Question ∷ cl.Colon ∷ []); shuns = None; flat = true } ∷
     -- EnumSpecifier
     record { kinds = (219 ∷ 222 ∷ 224 ∷ []); openers = (217 ∷ []); suffixes = []; firsts = (cl.Enum ∷ []); goes = (cl.LeftBrace ∷ []); shuns = None; flat = true } ∷
     -- EnumeratorList
@@ -1194,7 +1194,7 @@ goals =
     -- AlignmentSpecifier
     record { kinds = (248 ∷ 251 ∷ []); openers = (244 ∷ []); suffixes = []; firsts = (cl.Alignas ∷ []); goes = []; shuns = None; flat = true } ∷
     -- Declarator
-    record { kinds = (254 ∷ 256 ∷ 259 ∷ 265 ∷ 268 ∷ 270 ∷ 274 ∷ 277 ∷ 280 ∷ []); openers = (332 ∷ 255 ∷ []); suffixes = (252 ∷ 260 ∷ []); firsts = (cl.Ident ∷ cl.IdentColon ∷ cl.TypedefName ∷ cl.TypedefColon ∷ cl.LeftParen ∷ cl.TypeParen ∷ cl.LiteralParen ∷ cl.Star ∷ []); goes = (cl.LeftParen ∷ cl.TypeParen ∷ cl.LiteralParen ∷ cl.LeftBracket ∷ []); shuns = None; flat = true } ∷
+    record { kinds = (256 ∷ 259 ∷ 265 ∷ 268 ∷ 270 ∷ 274 ∷ 277 ∷ 280 ∷ 254 ∷ []); openers = (255 ∷ 332 ∷ []); suffixes = (260 ∷ 252 ∷ []); firsts = (cl.Ident ∷ cl.IdentColon ∷ cl.TypedefName ∷ cl.TypedefColon ∷ cl.LeftParen ∷ cl.TypeParen ∷ cl.LiteralParen ∷ cl.Star ∷ []); goes = (cl.LeftParen ∷ cl.TypeParen ∷ cl.LiteralParen ∷ cl.LeftBracket ∷ []); shuns = None; flat = true } ∷
     -- DirectDeclarator
     record { kinds = (256 ∷ 259 ∷ 265 ∷ 268 ∷ 270 ∷ 274 ∷ 277 ∷ 280 ∷ []); openers = (255 ∷ []); suffixes = (260 ∷ []); firsts = (cl.Ident ∷ cl.IdentColon ∷ cl.TypedefName ∷ cl.TypedefColon ∷ cl.LeftParen ∷ cl.TypeParen ∷ cl.LiteralParen ∷ []); goes = (cl.LeftParen ∷ cl.TypeParen ∷ cl.LiteralParen ∷ cl.LeftBracket ∷ []); shuns = None; flat = true } ∷
     -- Pointer
@@ -1202,23 +1202,23 @@ goals =
     -- TypeQualifierList
     record { kinds = (337 ∷ []); openers = (336 ∷ []); suffixes = []; firsts = (cl.Const ∷ cl.Restrict ∷ cl.Volatile ∷ cl.Atomic ∷ []); goes = (cl.Const ∷ cl.Restrict ∷ cl.Volatile ∷ cl.Atomic ∷ []); shuns = None; flat = true } ∷
     -- ParameterTypeList
-    record { kinds = (341 ∷ 343 ∷ []); openers = (342 ∷ []); suffixes = (338 ∷ []); firsts = (cl.TypedefName ∷ cl.TypedefColon ∷ cl.Typedef ∷ cl.Extern ∷ cl.Static ∷ cl.ThreadLocal ∷ cl.Auto ∷ cl.Register ∷ cl.Void ∷ cl.Char ∷ cl.Short ∷ cl.Int ∷ cl.Long ∷ cl.Float ∷ cl.Double ∷ cl.Signed ∷ cl.Unsigned ∷ cl.Bool ∷ cl.Struct ∷ cl.Union ∷ cl.Enum ∷ cl.Const ∷ cl.Restrict ∷ cl.Volatile ∷ cl.Atomic ∷ cl.AtomicParen ∷ cl.Inline ∷ cl.Noreturn ∷ cl.Alignas ∷ []); goes = (cl.Ident ∷ cl.IdentColon ∷ cl.TypedefName ∷ cl.TypedefColon ∷ cl.LeftParen ∷ cl.TypeParen ∷ cl.LiteralParen ∷ cl.LeftBracket ∷ cl.LeftBrace ∷ cl.Star ∷ cl.Comma ∷ cl.LastComma ∷ cl.Typedef ∷ cl.Extern ∷ cl.Static ∷ cl.ThreadLocal ∷ cl.Auto ∷ cl.Register ∷ cl.Void ∷ cl.Char ∷ cl.Short ∷ cl.Int ∷ cl.Long ∷ cl.Float ∷ cl.Double ∷ cl.Signed ∷ cl.Unsigned ∷ cl.Bool ∷ cl.Struct ∷ cl.Union ∷ cl.Enum ∷ cl.Const ∷ cl.Restrict ∷ cl.Volatile ∷ cl.Atomic ∷ cl.AtomicParen ∷ cl.Inline ∷ cl.Noreturn ∷ cl.Alignas ∷ []); shuns = None; flat = true } ∷
+    record { kinds = (343 ∷ 341 ∷ []); openers = (342 ∷ []); suffixes = (338 ∷ []); firsts = (cl.TypedefName ∷ cl.TypedefColon ∷ cl.Typedef ∷ cl.Extern ∷ cl.Static ∷ cl.ThreadLocal ∷ cl.Auto ∷ cl.Register ∷ cl.Void ∷ cl.Char ∷ cl.Short ∷ cl.Int ∷ cl.Long ∷ cl.Float ∷ cl.Double ∷ cl.Signed ∷ cl.Unsigned ∷ cl.Bool ∷ cl.Struct ∷ cl.Union ∷ cl.Enum ∷ cl.Const ∷ cl.Restrict ∷ cl.Volatile ∷ cl.Atomic ∷ cl.AtomicParen ∷ cl.Inline ∷ cl.Noreturn ∷ cl.Alignas ∷ []); goes = (cl.Ident ∷ cl.IdentColon ∷ cl.TypedefName ∷ cl.TypedefColon ∷ cl.LeftParen ∷ cl.TypeParen ∷ cl.LiteralParen ∷ cl.LeftBracket ∷ cl.LeftBrace ∷ cl.Star ∷ cl.Comma ∷ cl.LastComma ∷ cl.Typedef ∷ cl.Extern ∷ cl.Static ∷ cl.ThreadLocal ∷ cl.Auto ∷ cl.Register ∷ cl.Void ∷ cl.Char ∷ cl.Short ∷ cl.Int ∷ cl.Long ∷ cl.Float ∷ cl.Double ∷ cl.Signed ∷ cl.Unsigned ∷ cl.Bool ∷ cl.Struct ∷ cl.Union ∷ cl.Enum ∷ cl.Const ∷ cl.Restrict ∷ cl.Volatile ∷ cl.Atomic ∷ cl.AtomicParen ∷ cl.Inline ∷ cl.Noreturn ∷ cl.Alignas ∷ []); shuns = None; flat = true } ∷
     -- ParameterList
     record { kinds = (343 ∷ []); openers = (342 ∷ []); suffixes = []; firsts = (cl.TypedefName ∷ cl.TypedefColon ∷ cl.Typedef ∷ cl.Extern ∷ cl.Static ∷ cl.ThreadLocal ∷ cl.Auto ∷ cl.Register ∷ cl.Void ∷ cl.Char ∷ cl.Short ∷ cl.Int ∷ cl.Long ∷ cl.Float ∷ cl.Double ∷ cl.Signed ∷ cl.Unsigned ∷ cl.Bool ∷ cl.Struct ∷ cl.Union ∷ cl.Enum ∷ cl.Const ∷ cl.Restrict ∷ cl.Volatile ∷ cl.Atomic ∷ cl.AtomicParen ∷ cl.Inline ∷ cl.Noreturn ∷ cl.Alignas ∷ []); goes = (cl.Ident ∷ cl.IdentColon ∷ cl.TypedefName ∷ cl.TypedefColon ∷ cl.LeftParen ∷ cl.TypeParen ∷ cl.LiteralParen ∷ cl.LeftBracket ∷ cl.LeftBrace ∷ cl.Star ∷ cl.Comma ∷ cl.Typedef ∷ cl.Extern ∷ cl.Static ∷ cl.ThreadLocal ∷ cl.Auto ∷ cl.Register ∷ cl.Void ∷ cl.Char ∷ cl.Short ∷ cl.Int ∷ cl.Long ∷ cl.Float ∷ cl.Double ∷ cl.Signed ∷ cl.Unsigned ∷ cl.Bool ∷ cl.Struct ∷ cl.Union ∷ cl.Enum ∷ cl.Const ∷ cl.Restrict ∷ cl.Volatile ∷ cl.Atomic ∷ cl.AtomicParen ∷ cl.Inline ∷ cl.Noreturn ∷ cl.Alignas ∷ []); shuns = None; flat = true } ∷
     -- ParameterDeclaration
-    record { kinds = (347 ∷ 348 ∷ 164 ∷ 165 ∷ []); openers = (163 ∷ []); suffixes = (344 ∷ []); firsts = (cl.TypedefName ∷ cl.TypedefColon ∷ cl.Typedef ∷ cl.Extern ∷ cl.Static ∷ cl.ThreadLocal ∷ cl.Auto ∷ cl.Register ∷ cl.Void ∷ cl.Char ∷ cl.Short ∷ cl.Int ∷ cl.Long ∷ cl.Float ∷ cl.Double ∷ cl.Signed ∷ cl.Unsigned ∷ cl.Bool ∷ cl.Struct ∷ cl.Union ∷ cl.Enum ∷ cl.Const ∷ cl.Restrict ∷ cl.Volatile ∷ cl.Atomic ∷ cl.AtomicParen ∷ cl.Inline ∷ cl.Noreturn ∷ cl.Alignas ∷ []); goes = (cl.Ident ∷ cl.IdentColon ∷ cl.TypedefName ∷ cl.TypedefColon ∷ cl.LeftParen ∷ cl.TypeParen ∷ cl.LiteralParen ∷ cl.LeftBracket ∷ cl.LeftBrace ∷ cl.Star ∷ cl.Typedef ∷ cl.Extern ∷ cl.Static ∷ cl.ThreadLocal ∷ cl.Auto ∷ cl.Register ∷ cl.Void ∷ cl.Char ∷ cl.Short ∷ cl.Int ∷ cl.Long ∷ cl.Float ∷ cl.Double ∷ cl.Signed ∷ cl.Unsigned ∷ cl.Bool ∷ cl.Struct ∷ cl.Union ∷ cl.Enum ∷ cl.Const ∷ cl.Restrict ∷ cl.Volatile ∷ cl.Atomic ∷ cl.AtomicParen ∷ cl.Inline ∷ cl.Noreturn ∷ cl.Alignas ∷ []); shuns = None; flat = true } ∷
+    record { kinds = (164 ∷ 165 ∷ 347 ∷ 348 ∷ []); openers = (163 ∷ []); suffixes = (344 ∷ []); firsts = (cl.TypedefName ∷ cl.TypedefColon ∷ cl.Typedef ∷ cl.Extern ∷ cl.Static ∷ cl.ThreadLocal ∷ cl.Auto ∷ cl.Register ∷ cl.Void ∷ cl.Char ∷ cl.Short ∷ cl.Int ∷ cl.Long ∷ cl.Float ∷ cl.Double ∷ cl.Signed ∷ cl.Unsigned ∷ cl.Bool ∷ cl.Struct ∷ cl.Union ∷ cl.Enum ∷ cl.Const ∷ cl.Restrict ∷ cl.Volatile ∷ cl.Atomic ∷ cl.AtomicParen ∷ cl.Inline ∷ cl.Noreturn ∷ cl.Alignas ∷ []); goes = (cl.Ident ∷ cl.IdentColon ∷ cl.TypedefName ∷ cl.TypedefColon ∷ cl.LeftParen ∷ cl.TypeParen ∷ cl.LiteralParen ∷ cl.LeftBracket ∷ cl.LeftBrace ∷ cl.Star ∷ cl.Typedef ∷ cl.Extern ∷ cl.Static ∷ cl.ThreadLocal ∷ cl.Auto ∷ cl.Register ∷ cl.Void ∷ cl.Char ∷ cl.Short ∷ cl.Int ∷ cl.Long ∷ cl.Float ∷ cl.Double ∷ cl.Signed ∷ cl.Unsigned ∷ cl.Bool ∷ cl.Struct ∷ cl.Union ∷ cl.Enum ∷ cl.Const ∷ cl.Restrict ∷ cl.Volatile ∷ cl.Atomic ∷ cl.AtomicParen ∷ cl.Inline ∷ cl.Noreturn ∷ cl.Alignas ∷ []); shuns = None; flat = true } ∷
     -- IdentifierList
     record { kinds = (350 ∷ []); openers = (349 ∷ []); suffixes = []; firsts = (cl.Ident ∷ cl.IdentColon ∷ cl.TypedefName ∷ cl.TypedefColon ∷ []); goes = (cl.Comma ∷ []); shuns = None; flat = true } ∷
     -- TypeName
-    record { kinds = (353 ∷ 206 ∷ 207 ∷ []); openers = (205 ∷ []); suffixes = (351 ∷ []); firsts = (cl.TypedefName ∷ cl.TypedefColon ∷ cl.Void ∷ cl.Char ∷ cl.Short ∷ cl.Int ∷ cl.Long ∷ cl.Float ∷ cl.Double ∷ cl.Signed ∷ cl.Unsigned ∷ cl.Bool ∷ cl.Struct ∷ cl.Union ∷ cl.Enum ∷ cl.Const ∷ cl.Restrict ∷ cl.Volatile ∷ cl.Atomic ∷ cl.AtomicParen ∷ []); goes = (cl.Ident ∷ cl.IdentColon ∷ cl.TypedefName ∷ cl.TypedefColon ∷ cl.LeftParen ∷ cl.TypeParen ∷ cl.LiteralParen ∷ cl.LeftBracket ∷ cl.LeftBrace ∷ cl.Star ∷ cl.Void ∷ cl.Char ∷ cl.Short ∷ cl.Int ∷ cl.Long ∷ cl.Float ∷ cl.Double ∷ cl.Signed ∷ cl.Unsigned ∷ cl.Bool ∷ cl.Struct ∷ cl.Union ∷ cl.Enum ∷ cl.Const ∷ cl.Restrict ∷ cl.Volatile ∷ cl.Atomic ∷ cl.AtomicParen ∷ []); shuns = None; flat = true } ∷
+    record { kinds = (206 ∷ 207 ∷ 353 ∷ []); openers = (205 ∷ []); suffixes = (351 ∷ []); firsts = (cl.TypedefName ∷ cl.TypedefColon ∷ cl.Void ∷ cl.Char ∷ cl.Short ∷ cl.Int ∷ cl.Long ∷ cl.Float ∷ cl.Double ∷ cl.Signed ∷ cl.Unsigned ∷ cl.Bool ∷ cl.Struct ∷ cl.Union ∷ cl.Enum ∷ cl.Const ∷ cl.Restrict ∷ cl.Volatile ∷ cl.Atomic ∷ cl.AtomicParen ∷ []); goes = (cl.Ident ∷ cl.IdentColon ∷ cl.TypedefName ∷ cl.TypedefColon ∷ cl.LeftParen ∷ cl.TypeParen ∷ cl.LiteralParen ∷ cl.LeftBracket ∷ cl.LeftBrace ∷ cl.Star ∷ cl.Void ∷ cl.Char ∷ cl.Short ∷ cl.Int ∷ cl.Long ∷ cl.Float ∷ cl.Double ∷ cl.Signed ∷ cl.Unsigned ∷ cl.Bool ∷ cl.Struct ∷ cl.Union ∷ cl.Enum ∷ cl.Const ∷ cl.Restrict ∷ cl.Volatile ∷ cl.Atomic ∷ cl.AtomicParen ∷ []); shuns = None; flat = true } ∷
     -- AbstractDeclarator
-    record { kinds = (285 ∷ 333 ∷ 334 ∷ 335 ∷ 293 ∷ 294 ∷ 298 ∷ 301 ∷ 305 ∷ 307 ∷ 310 ∷ 359 ∷ 362 ∷ 366 ∷ 368 ∷ 370 ∷ 373 ∷ []); openers = (332 ∷ 286 ∷ []); suffixes = (281 ∷ 354 ∷ []); firsts = (cl.Ident ∷ cl.IdentColon ∷ cl.TypedefName ∷ cl.TypedefColon ∷ cl.LeftParen ∷ cl.TypeParen ∷ cl.LiteralParen ∷ cl.LeftBracket ∷ cl.Star ∷ []); goes = (cl.Ident ∷ cl.IdentColon ∷ cl.TypedefName ∷ cl.TypedefColon ∷ cl.LeftParen ∷ cl.TypeParen ∷ cl.LiteralParen ∷ cl.LeftBracket ∷ cl.Star ∷ cl.Const ∷ cl.Restrict ∷ cl.Volatile ∷ cl.Atomic ∷ []); shuns = None; flat = true } ∷
+    record { kinds = (333 ∷ 334 ∷ 335 ∷ 293 ∷ 294 ∷ 298 ∷ 301 ∷ 305 ∷ 307 ∷ 310 ∷ 359 ∷ 362 ∷ 366 ∷ 368 ∷ 370 ∷ 373 ∷ 285 ∷ []); openers = (332 ∷ 286 ∷ []); suffixes = (354 ∷ 281 ∷ []); firsts = (cl.Ident ∷ cl.IdentColon ∷ cl.TypedefName ∷ cl.TypedefColon ∷ cl.LeftParen ∷ cl.TypeParen ∷ cl.LiteralParen ∷ cl.LeftBracket ∷ cl.Star ∷ []); goes = (cl.Ident ∷ cl.IdentColon ∷ cl.TypedefName ∷ cl.TypedefColon ∷ cl.LeftParen ∷ cl.TypeParen ∷ cl.LiteralParen ∷ cl.LeftBracket ∷ cl.Star ∷ cl.Const ∷ cl.Restrict ∷ cl.Volatile ∷ cl.Atomic ∷ []); shuns = None; flat = true } ∷
     -- DirectAbstractDeclarator
     record { kinds = (293 ∷ 294 ∷ 298 ∷ 301 ∷ 305 ∷ 307 ∷ 310 ∷ 359 ∷ 362 ∷ 366 ∷ 368 ∷ 370 ∷ 373 ∷ []); openers = (286 ∷ []); suffixes = (354 ∷ []); firsts = (cl.Ident ∷ cl.IdentColon ∷ cl.TypedefName ∷ cl.TypedefColon ∷ cl.LeftParen ∷ cl.TypeParen ∷ cl.LiteralParen ∷ cl.LeftBracket ∷ []); goes = (cl.LeftParen ∷ cl.TypeParen ∷ cl.LiteralParen ∷ cl.LeftBracket ∷ []); shuns = None; flat = true } ∷
     -- TypedefName
     record { kinds = (375 ∷ []); openers = (374 ∷ []); suffixes = []; firsts = (cl.TypedefName ∷ cl.TypedefColon ∷ []); goes = []; shuns = None; flat = true } ∷
     -- Initializer
-    record { kinds = (379 ∷ 381 ∷ 142 ∷ 138 ∷ 132 ∷ 128 ∷ 124 ∷ 120 ∷ 116 ∷ 110 ∷ 112 ∷ 100 ∷ 102 ∷ 104 ∷ 106 ∷ 94 ∷ 96 ∷ 88 ∷ 90 ∷ 80 ∷ 82 ∷ 84 ∷ 76 ∷ 51 ∷ 53 ∷ 55 ∷ 57 ∷ 60 ∷ 64 ∷ 28 ∷ 31 ∷ 33 ∷ 35 ∷ 36 ∷ 37 ∷ 44 ∷ 46 ∷ 2 ∷ 3 ∷ 4 ∷ 7 ∷ 14 ∷ []); openers = (376 ∷ 49 ∷ 38 ∷ 1 ∷ 8 ∷ 72 ∷ []); suffixes = (139 ∷ 24 ∷ 133 ∷ 129 ∷ 125 ∷ 121 ∷ 117 ∷ 113 ∷ 107 ∷ 97 ∷ 91 ∷ 85 ∷ 77 ∷ []); firsts = (cl.Ident ∷ cl.IdentColon ∷ cl.TypedefName ∷ cl.TypedefColon ∷ cl.Constant ∷ cl.String ∷ cl.LeftParen ∷ cl.TypeParen ∷ cl.LiteralParen ∷ cl.LeftBrace ∷ cl.PlusPlus ∷ cl.MinusMinus ∷ cl.Ampersand ∷ cl.Star ∷ cl.Plus ∷ cl.Minus ∷ cl.Tilde ∷ cl.Bang ∷ cl.Sizeof ∷ cl.Alignof ∷ cl.Generic ∷ []); goes = (cl.String ∷ cl.LeftParen ∷ cl.TypeParen ∷ cl.LiteralParen ∷ cl.LeftBracket ∷ cl.Dot ∷ cl.Arrow ∷ cl.PlusPlus ∷ cl.MinusMinus ∷ cl.Ampersand ∷ cl.Star ∷ cl.Plus ∷ cl.Minus ∷ cl.Slash ∷ cl.Percent ∷ cl.ShiftLeft ∷ cl.ShiftRight ∷ cl.Less ∷ cl.Greater ∷ cl.LessEqual ∷ cl.GreaterEqual ∷ cl.EqualEqual ∷ cl.BangEqual ∷ cl.Caret ∷ cl.Bar ∷ cl.AndAnd ∷ cl.OrOr ∷ cl.Question ∷ cl.Equal ∷ cl.StarEqual ∷ cl.SlashEqual ∷ cl.PercentEqual ∷ cl.PlusEqual ∷ cl.MinusEqual ∷ cl.ShiftLeftEqual ∷ cl.ShiftRightEqual ∷ cl.AmpersandEqual ∷ cl.CaretEqual ∷ cl.BarEqual ∷ []); shuns = None; flat = true } ∷
+    record { kinds = (14 ∷ 2 ∷ 3 ∷ 4 ∷ 7 ∷ 28 ∷ 31 ∷ 33 ∷ 35 ∷ 36 ∷ 37 ∷ 44 ∷ 46 ∷ 51 ∷ 53 ∷ 55 ∷ 57 ∷ 60 ∷ 64 ∷ 76 ∷ 80 ∷ 82 ∷ 84 ∷ 88 ∷ 90 ∷ 94 ∷ 96 ∷ 100 ∷ 102 ∷ 104 ∷ 106 ∷ 110 ∷ 112 ∷ 116 ∷ 120 ∷ 124 ∷ 128 ∷ 132 ∷ 138 ∷ 142 ∷ 379 ∷ 381 ∷ []); openers = (8 ∷ 1 ∷ 38 ∷ 49 ∷ 72 ∷ 376 ∷ []); suffixes = (24 ∷ 77 ∷ 85 ∷ 91 ∷ 97 ∷ 107 ∷ 113 ∷ 117 ∷ 121 ∷ 125 ∷ 129 ∷ 133 ∷ 139 ∷ []); firsts = (cl.Ident ∷ cl.IdentColon ∷ cl.TypedefName ∷ cl.TypedefColon ∷ cl.Constant ∷ cl.String ∷ cl.LeftParen ∷ cl.TypeParen ∷ cl.LiteralParen ∷ cl.LeftBrace ∷ cl.PlusPlus ∷ cl.MinusMinus ∷ cl.Ampersand ∷ cl.Star ∷ cl.Plus ∷ cl.Minus ∷ cl.Tilde ∷ cl.Bang ∷ cl.Sizeof ∷ cl.Alignof ∷ cl.Generic ∷ []); goes = (cl.String ∷ cl.LeftParen ∷ cl.TypeParen ∷ cl.LiteralParen ∷ cl.LeftBracket ∷ cl.Dot ∷ cl.Arrow ∷ cl.PlusPlus ∷ cl.MinusMinus ∷ cl.Ampersand ∷ cl.Star ∷ cl.Plus ∷ cl.Minus ∷ cl.Slash ∷ cl.Percent ∷ cl.ShiftLeft ∷ cl.ShiftRight ∷ cl.Less ∷ cl.Greater ∷ cl.LessEqual ∷ cl.GreaterEqual ∷ cl.EqualEqual ∷ cl.BangEqual ∷ cl.Caret ∷ cl.Bar ∷ cl.AndAnd ∷ cl.OrOr ∷ cl.Question ∷ cl.Equal ∷ cl.StarEqual ∷ cl.SlashEqual ∷ cl.PercentEqual ∷ cl.PlusEqual ∷ cl.MinusEqual ∷ cl.ShiftLeftEqual ∷ cl.ShiftRightEqual ∷ cl.AmpersandEqual ∷ cl.CaretEqual ∷ cl.BarEqual ∷ []); shuns = None; flat = true } ∷
     -- InitializerList
     record { kinds = (384 ∷ []); openers = (382 ∷ []); suffixes = []; firsts = (cl.Ident ∷ cl.IdentColon ∷ cl.TypedefName ∷ cl.TypedefColon ∷ cl.Constant ∷ cl.String ∷ cl.LeftParen ∷ cl.TypeParen ∷ cl.LiteralParen ∷ cl.LeftBracket ∷ cl.LeftBrace ∷ cl.Dot ∷ cl.PlusPlus ∷ cl.MinusMinus ∷ cl.Ampersand ∷ cl.Star ∷ cl.Plus ∷ cl.Minus ∷ cl.Tilde ∷ cl.Bang ∷ cl.Sizeof ∷ cl.Alignof ∷ cl.Generic ∷ []); goes = (cl.String ∷ cl.LeftParen ∷ cl.TypeParen ∷ cl.LiteralParen ∷ cl.LeftBracket ∷ cl.Dot ∷ cl.Arrow ∷ cl.PlusPlus ∷ cl.MinusMinus ∷ cl.Ampersand ∷ cl.Star ∷ cl.Plus ∷ cl.Minus ∷ cl.Slash ∷ cl.Percent ∷ cl.ShiftLeft ∷ cl.ShiftRight ∷ cl.Less ∷ cl.Greater ∷ cl.LessEqual ∷ cl.GreaterEqual ∷ cl.EqualEqual ∷ cl.BangEqual ∷ cl.Caret ∷ cl.Bar ∷ cl.AndAnd ∷ cl.OrOr ∷ cl.Question ∷ cl.Comma ∷ cl.DesignationComma ∷ cl.Equal ∷ cl.StarEqual ∷ cl.SlashEqual ∷ cl.PercentEqual ∷ cl.PlusEqual ∷ cl.MinusEqual ∷ cl.ShiftLeftEqual ∷ cl.ShiftRightEqual ∷ cl.AmpersandEqual ∷ cl.CaretEqual ∷ cl.BarEqual ∷ []); shuns = None; flat = true } ∷
     -- Designation
@@ -1238,7 +1238,7 @@ goals =
     -- BlockItemList
     record { kinds = (426 ∷ []); openers = (425 ∷ []); suffixes = []; firsts = (cl.Ident ∷ cl.IdentColon ∷ cl.TypedefName ∷ cl.TypedefColon ∷ cl.Constant ∷ cl.String ∷ cl.LeftParen ∷ cl.TypeParen ∷ cl.LiteralParen ∷ cl.RightParen ∷ cl.LeftBracket ∷ cl.RightBracket ∷ cl.LeftBrace ∷ cl.Dot ∷ cl.Arrow ∷ cl.PlusPlus ∷ cl.MinusMinus ∷ cl.Ampersand ∷ cl.Star ∷ cl.StarBracket ∷ cl.Plus ∷ cl.Minus ∷ cl.Tilde ∷ cl.Bang ∷ cl.Slash ∷ cl.Percent ∷ cl.ShiftLeft ∷ cl.ShiftRight ∷ cl.Less ∷ cl.Greater ∷ cl.LessEqual ∷ cl.GreaterEqual ∷ cl.EqualEqual ∷ cl.BangEqual ∷ cl.Caret ∷ cl.Bar ∷ cl.AndAnd ∷ cl.OrOr ∷ cl.Question ∷ cl.Colon ∷ cl.Semicolon ∷ cl.Ellipsis ∷ cl.Comma ∷ cl.LastComma ∷ cl.DesignationComma ∷ cl.Equal ∷ cl.StarEqual ∷ cl.SlashEqual ∷ cl.PercentEqual ∷ cl.PlusEqual ∷ cl.MinusEqual ∷ cl.ShiftLeftEqual ∷ cl.ShiftRightEqual ∷ cl.AmpersandEqual ∷ cl.CaretEqual ∷ cl.BarEqual ∷ cl.Sizeof ∷ cl.Alignof ∷ cl.Generic ∷ cl.Default ∷ cl.Case ∷ cl.If ∷ cl.Else ∷ cl.Switch ∷ cl.While ∷ cl.Do ∷ cl.For ∷ cl.Goto ∷ cl.Continue ∷ cl.Break ∷ cl.Return ∷ cl.StaticAssert ∷ cl.Typedef ∷ cl.Extern ∷ cl.Static ∷ cl.ThreadLocal ∷ cl.Auto ∷ cl.Register ∷ cl.Void ∷ cl.Char ∷ cl.Short ∷ cl.Int ∷ cl.Long ∷ cl.Float ∷ cl.Double ∷ cl.Signed ∷ cl.Unsigned ∷ cl.Bool ∷ cl.Struct ∷ cl.Union ∷ cl.Enum ∷ cl.Const ∷ cl.Restrict ∷ cl.Volatile ∷ cl.Atomic ∷ cl.AtomicParen ∷ cl.Inline ∷ cl.Noreturn ∷ cl.Alignas ∷ cl.Other ∷ []); goes = (cl.Ident ∷ cl.IdentColon ∷ cl.TypedefName ∷ cl.TypedefColon ∷ cl.Constant ∷ cl.String ∷ cl.LeftParen ∷ cl.TypeParen ∷ cl.LiteralParen ∷ cl.RightParen ∷ cl.LeftBracket ∷ cl.RightBracket ∷ cl.LeftBrace ∷ cl.Dot ∷ cl.Arrow ∷ cl.PlusPlus ∷ cl.MinusMinus ∷ cl.Ampersand ∷ cl.Star ∷ cl.StarBracket ∷ cl.Plus ∷ cl.Minus ∷ cl.Tilde ∷ cl.Bang ∷ cl.Slash ∷ cl.Percent ∷ cl.ShiftLeft ∷ cl.ShiftRight ∷ cl.Less ∷ cl.Greater ∷ cl.LessEqual ∷ cl.GreaterEqual ∷ cl.EqualEqual ∷ cl.BangEqual ∷ cl.Caret ∷ cl.Bar ∷ cl.AndAnd ∷ cl.OrOr ∷ cl.Question ∷ cl.Colon ∷ cl.Semicolon ∷ cl.Ellipsis ∷ cl.Comma ∷ cl.LastComma ∷ cl.DesignationComma ∷ cl.Equal ∷ cl.StarEqual ∷ cl.SlashEqual ∷ cl.PercentEqual ∷ cl.PlusEqual ∷ cl.MinusEqual ∷ cl.ShiftLeftEqual ∷ cl.ShiftRightEqual ∷ cl.AmpersandEqual ∷ cl.CaretEqual ∷ cl.BarEqual ∷ cl.Sizeof ∷ cl.Alignof ∷ cl.Generic ∷ cl.Default ∷ cl.Case ∷ cl.If ∷ cl.Else ∷ cl.Switch ∷ cl.While ∷ cl.Do ∷ cl.For ∷ cl.Goto ∷ cl.Continue ∷ cl.Break ∷ cl.Return ∷ cl.StaticAssert ∷ cl.Typedef ∷ cl.Extern ∷ cl.Static ∷ cl.ThreadLocal ∷ cl.Auto ∷ cl.Register ∷ cl.Void ∷ cl.Char ∷ cl.Short ∷ cl.Int ∷ cl.Long ∷ cl.Float ∷ cl.Double ∷ cl.Signed ∷ cl.Unsigned ∷ cl.Bool ∷ cl.Struct ∷ cl.Union ∷ cl.Enum ∷ cl.Const ∷ cl.Restrict ∷ cl.Volatile ∷ cl.Atomic ∷ cl.AtomicParen ∷ cl.Inline ∷ cl.Noreturn ∷ cl.Alignas ∷ cl.Other ∷ []); shuns = None; flat = false } ∷
     -- BlockItem
-    record { kinds = (500 ∷ 403 ∷ 409 ∷ 415 ∷ 420 ∷ 408 ∷ 414 ∷ 419 ∷ 424 ∷ 496 ∷ 441 ∷ 448 ∷ 436 ∷ 437 ∷ 440 ∷ 447 ∷ 456 ∷ 463 ∷ 474 ∷ 482 ∷ 462 ∷ 473 ∷ 481 ∷ 486 ∷ 488 ∷ 490 ∷ 493 ∷ []); openers = (497 ∷ 396 ∷ 404 ∷ 421 ∷ 494 ∷ 430 ∷ 449 ∷ 483 ∷ []); suffixes = []; firsts = (cl.Ident ∷ cl.IdentColon ∷ cl.TypedefName ∷ cl.TypedefColon ∷ cl.Constant ∷ cl.String ∷ cl.LeftParen ∷ cl.TypeParen ∷ cl.LiteralParen ∷ cl.LeftBrace ∷ cl.PlusPlus ∷ cl.MinusMinus ∷ cl.Ampersand ∷ cl.Star ∷ cl.Plus ∷ cl.Minus ∷ cl.Tilde ∷ cl.Bang ∷ cl.Semicolon ∷ cl.Sizeof ∷ cl.Alignof ∷ cl.Generic ∷ cl.Default ∷ cl.Case ∷ cl.If ∷ cl.Switch ∷ cl.While ∷ cl.Do ∷ cl.For ∷ cl.Goto ∷ cl.Continue ∷ cl.Break ∷ cl.Return ∷ cl.StaticAssert ∷ cl.Typedef ∷ cl.Extern ∷ cl.Static ∷ cl.ThreadLocal ∷ cl.Auto ∷ cl.Register ∷ cl.Void ∷ cl.Char ∷ cl.Short ∷ cl.Int ∷ cl.Long ∷ cl.Float ∷ cl.Double ∷ cl.Signed ∷ cl.Unsigned ∷ cl.Bool ∷ cl.Struct ∷ cl.Union ∷ cl.Enum ∷ cl.Const ∷ cl.Restrict ∷ cl.Volatile ∷ cl.Atomic ∷ cl.AtomicParen ∷ cl.Inline ∷ cl.Noreturn ∷ cl.Alignas ∷ []); goes = []; shuns = None; flat = false } ∷
+    record { kinds = (403 ∷ 500 ∷ 409 ∷ 415 ∷ 420 ∷ 408 ∷ 414 ∷ 419 ∷ 424 ∷ 496 ∷ 441 ∷ 448 ∷ 436 ∷ 437 ∷ 440 ∷ 447 ∷ 456 ∷ 463 ∷ 474 ∷ 482 ∷ 462 ∷ 473 ∷ 481 ∷ 486 ∷ 488 ∷ 490 ∷ 493 ∷ []); openers = (396 ∷ 497 ∷ 404 ∷ 421 ∷ 494 ∷ 430 ∷ 449 ∷ 483 ∷ []); suffixes = []; firsts = (cl.Ident ∷ cl.IdentColon ∷ cl.TypedefName ∷ cl.TypedefColon ∷ cl.Constant ∷ cl.String ∷ cl.LeftParen ∷ cl.TypeParen ∷ cl.LiteralParen ∷ cl.LeftBrace ∷ cl.PlusPlus ∷ cl.MinusMinus ∷ cl.Ampersand ∷ cl.Star ∷ cl.Plus ∷ cl.Minus ∷ cl.Tilde ∷ cl.Bang ∷ cl.Semicolon ∷ cl.Sizeof ∷ cl.Alignof ∷ cl.Generic ∷ cl.Default ∷ cl.Case ∷ cl.If ∷ cl.Switch ∷ cl.While ∷ cl.Do ∷ cl.For ∷ cl.Goto ∷ cl.Continue ∷ cl.Break ∷ cl.Return ∷ cl.StaticAssert ∷ cl.Typedef ∷ cl.Extern ∷ cl.Static ∷ cl.ThreadLocal ∷ cl.Auto ∷ cl.Register ∷ cl.Void ∷ cl.Char ∷ cl.Short ∷ cl.Int ∷ cl.Long ∷ cl.Float ∷ cl.Double ∷ cl.Signed ∷ cl.Unsigned ∷ cl.Bool ∷ cl.Struct ∷ cl.Union ∷ cl.Enum ∷ cl.Const ∷ cl.Restrict ∷ cl.Volatile ∷ cl.Atomic ∷ cl.AtomicParen ∷ cl.Inline ∷ cl.Noreturn ∷ cl.Alignas ∷ []); goes = []; shuns = None; flat = false } ∷
     -- ExpressionStatement
     record { kinds = (429 ∷ []); openers = (427 ∷ []); suffixes = []; firsts = (cl.Ident ∷ cl.TypedefName ∷ cl.Constant ∷ cl.String ∷ cl.LeftParen ∷ cl.TypeParen ∷ cl.LiteralParen ∷ cl.PlusPlus ∷ cl.MinusMinus ∷ cl.Ampersand ∷ cl.Star ∷ cl.Plus ∷ cl.Minus ∷ cl.Tilde ∷ cl.Bang ∷ cl.Semicolon ∷ cl.Sizeof ∷ cl.Alignof ∷ cl.Generic ∷ []); goes = []; shuns = None; flat = true } ∷
     -- SelectionStatement
@@ -1252,17 +1252,17 @@ goals =
     -- OtherSpecifier
     record { kinds = (173 ∷ 174 ∷ 175 ∷ 176 ∷ 177 ∷ 178 ∷ 237 ∷ 238 ∷ 239 ∷ 240 ∷ 242 ∷ 243 ∷ 248 ∷ 251 ∷ []); openers = (172 ∷ 236 ∷ 241 ∷ 244 ∷ []); suffixes = []; firsts = (cl.Typedef ∷ cl.Extern ∷ cl.Static ∷ cl.ThreadLocal ∷ cl.Auto ∷ cl.Register ∷ cl.Const ∷ cl.Restrict ∷ cl.Volatile ∷ cl.Atomic ∷ cl.Inline ∷ cl.Noreturn ∷ cl.Alignas ∷ []); goes = []; shuns = None; flat = true } ∷
     -- LaterTypeSpecifier
-    record { kinds = (180 ∷ 181 ∷ 182 ∷ 183 ∷ 184 ∷ 185 ∷ 186 ∷ 187 ∷ 188 ∷ 189 ∷ 235 ∷ 192 ∷ 195 ∷ 219 ∷ 222 ∷ 224 ∷ []); openers = (179 ∷ 231 ∷ 190 ∷ 217 ∷ []); suffixes = []; firsts = (cl.Void ∷ cl.Char ∷ cl.Short ∷ cl.Int ∷ cl.Long ∷ cl.Float ∷ cl.Double ∷ cl.Signed ∷ cl.Unsigned ∷ cl.Bool ∷ cl.Struct ∷ cl.Union ∷ cl.Enum ∷ cl.AtomicParen ∷ []); goes = (cl.LeftBrace ∷ []); shuns = None; flat = true } ∷
+    record { kinds = (235 ∷ 192 ∷ 195 ∷ 219 ∷ 222 ∷ 224 ∷ 180 ∷ 181 ∷ 182 ∷ 183 ∷ 184 ∷ 185 ∷ 186 ∷ 187 ∷ 188 ∷ 189 ∷ []); openers = (231 ∷ 190 ∷ 217 ∷ 179 ∷ []); suffixes = []; firsts = (cl.Void ∷ cl.Char ∷ cl.Short ∷ cl.Int ∷ cl.Long ∷ cl.Float ∷ cl.Double ∷ cl.Signed ∷ cl.Unsigned ∷ cl.Bool ∷ cl.Struct ∷ cl.Union ∷ cl.Enum ∷ cl.AtomicParen ∷ []); goes = (cl.LeftBrace ∷ []); shuns = None; flat = true } ∷
     -- LaterSpecifier
-    record { kinds = (173 ∷ 174 ∷ 175 ∷ 176 ∷ 177 ∷ 178 ∷ 237 ∷ 238 ∷ 239 ∷ 240 ∷ 242 ∷ 243 ∷ 248 ∷ 251 ∷ 180 ∷ 181 ∷ 182 ∷ 183 ∷ 184 ∷ 185 ∷ 186 ∷ 187 ∷ 188 ∷ 189 ∷ 235 ∷ 192 ∷ 195 ∷ 219 ∷ 222 ∷ 224 ∷ []); openers = (172 ∷ 236 ∷ 241 ∷ 244 ∷ 179 ∷ 231 ∷ 190 ∷ 217 ∷ []); suffixes = []; firsts = (cl.Typedef ∷ cl.Extern ∷ cl.Static ∷ cl.ThreadLocal ∷ cl.Auto ∷ cl.Register ∷ cl.Void ∷ cl.Char ∷ cl.Short ∷ cl.Int ∷ cl.Long ∷ cl.Float ∷ cl.Double ∷ cl.Signed ∷ cl.Unsigned ∷ cl.Bool ∷ cl.Struct ∷ cl.Union ∷ cl.Enum ∷ cl.Const ∷ cl.Restrict ∷ cl.Volatile ∷ cl.Atomic ∷ cl.AtomicParen ∷ cl.Inline ∷ cl.Noreturn ∷ cl.Alignas ∷ []); goes = (cl.LeftBrace ∷ []); shuns = None; flat = true } ∷
+    record { kinds = (173 ∷ 174 ∷ 175 ∷ 176 ∷ 177 ∷ 178 ∷ 237 ∷ 238 ∷ 239 ∷ 240 ∷ 242 ∷ 243 ∷ 248 ∷ 251 ∷ 235 ∷ 192 ∷ 195 ∷ 219 ∷ 222 ∷ 224 ∷ 180 ∷ 181 ∷ 182 ∷ 183 ∷ 184 ∷ 185 ∷ 186 ∷ 187 ∷ 188 ∷ 189 ∷ []); openers = (172 ∷ 236 ∷ 241 ∷ 244 ∷ 231 ∷ 190 ∷ 217 ∷ 179 ∷ []); suffixes = []; firsts = (cl.Typedef ∷ cl.Extern ∷ cl.Static ∷ cl.ThreadLocal ∷ cl.Auto ∷ cl.Register ∷ cl.Void ∷ cl.Char ∷ cl.Short ∷ cl.Int ∷ cl.Long ∷ cl.Float ∷ cl.Double ∷ cl.Signed ∷ cl.Unsigned ∷ cl.Bool ∷ cl.Struct ∷ cl.Union ∷ cl.Enum ∷ cl.Const ∷ cl.Restrict ∷ cl.Volatile ∷ cl.Atomic ∷ cl.AtomicParen ∷ cl.Inline ∷ cl.Noreturn ∷ cl.Alignas ∷ []); goes = (cl.LeftBrace ∷ []); shuns = None; flat = true } ∷
     -- LaterQualifier
-    record { kinds = (237 ∷ 238 ∷ 239 ∷ 240 ∷ 180 ∷ 181 ∷ 182 ∷ 183 ∷ 184 ∷ 185 ∷ 186 ∷ 187 ∷ 188 ∷ 189 ∷ 235 ∷ 192 ∷ 195 ∷ 219 ∷ 222 ∷ 224 ∷ []); openers = (236 ∷ 179 ∷ 231 ∷ 190 ∷ 217 ∷ []); suffixes = []; firsts = (cl.Void ∷ cl.Char ∷ cl.Short ∷ cl.Int ∷ cl.Long ∷ cl.Float ∷ cl.Double ∷ cl.Signed ∷ cl.Unsigned ∷ cl.Bool ∷ cl.Struct ∷ cl.Union ∷ cl.Enum ∷ cl.Const ∷ cl.Restrict ∷ cl.Volatile ∷ cl.Atomic ∷ cl.AtomicParen ∷ []); goes = (cl.LeftBrace ∷ []); shuns = None; flat = true } ∷
+    record { kinds = (237 ∷ 238 ∷ 239 ∷ 240 ∷ 235 ∷ 192 ∷ 195 ∷ 219 ∷ 222 ∷ 224 ∷ 180 ∷ 181 ∷ 182 ∷ 183 ∷ 184 ∷ 185 ∷ 186 ∷ 187 ∷ 188 ∷ 189 ∷ []); openers = (236 ∷ 231 ∷ 190 ∷ 217 ∷ 179 ∷ []); suffixes = []; firsts = (cl.Void ∷ cl.Char ∷ cl.Short ∷ cl.Int ∷ cl.Long ∷ cl.Float ∷ cl.Double ∷ cl.Signed ∷ cl.Unsigned ∷ cl.Bool ∷ cl.Struct ∷ cl.Union ∷ cl.Enum ∷ cl.Const ∷ cl.Restrict ∷ cl.Volatile ∷ cl.Atomic ∷ cl.AtomicParen ∷ []); goes = (cl.LeftBrace ∷ []); shuns = None; flat = true } ∷
     -- ParameterDeclarator
-    record { kinds = (284 ∷ 287 ∷ 291 ∷ 316 ∷ 319 ∷ 321 ∷ 325 ∷ 328 ∷ 331 ∷ []); openers = (332 ∷ 286 ∷ []); suffixes = (281 ∷ 311 ∷ []); firsts = (cl.Ident ∷ cl.IdentColon ∷ cl.TypedefName ∷ cl.TypedefColon ∷ cl.LeftParen ∷ cl.TypeParen ∷ cl.LiteralParen ∷ cl.LeftBracket ∷ cl.Star ∷ []); goes = (cl.LeftParen ∷ cl.TypeParen ∷ cl.LiteralParen ∷ cl.LeftBracket ∷ []); shuns = None; flat = true } ∷
+    record { kinds = (287 ∷ 291 ∷ 316 ∷ 319 ∷ 321 ∷ 325 ∷ 328 ∷ 331 ∷ 284 ∷ []); openers = (286 ∷ 332 ∷ []); suffixes = (311 ∷ 281 ∷ []); firsts = (cl.Ident ∷ cl.IdentColon ∷ cl.TypedefName ∷ cl.TypedefColon ∷ cl.LeftParen ∷ cl.TypeParen ∷ cl.LiteralParen ∷ cl.LeftBracket ∷ cl.Star ∷ []); goes = (cl.LeftParen ∷ cl.TypeParen ∷ cl.LiteralParen ∷ cl.LeftBracket ∷ []); shuns = None; flat = true } ∷
     -- DirectParameterDeclarator
     record { kinds = (287 ∷ 291 ∷ 316 ∷ 319 ∷ 321 ∷ 325 ∷ 328 ∷ 331 ∷ []); openers = (286 ∷ []); suffixes = (311 ∷ []); firsts = (cl.Ident ∷ cl.IdentColon ∷ cl.TypedefName ∷ cl.TypedefColon ∷ cl.LeftParen ∷ cl.TypeParen ∷ cl.LiteralParen ∷ cl.LeftBracket ∷ []); goes = (cl.LeftParen ∷ cl.TypeParen ∷ cl.LiteralParen ∷ cl.LeftBracket ∷ []); shuns = None; flat = true } ∷
     -- AnyDeclarator
-    record { kinds = (284 ∷ 287 ∷ 291 ∷ 316 ∷ 319 ∷ 321 ∷ 325 ∷ 328 ∷ 331 ∷ 285 ∷ 333 ∷ 334 ∷ 335 ∷ 293 ∷ 294 ∷ 298 ∷ 301 ∷ 305 ∷ 307 ∷ 310 ∷ 359 ∷ 362 ∷ 366 ∷ 368 ∷ 370 ∷ 373 ∷ []); openers = (332 ∷ 286 ∷ []); suffixes = (281 ∷ 311 ∷ 354 ∷ []); firsts = (cl.Ident ∷ cl.IdentColon ∷ cl.TypedefName ∷ cl.TypedefColon ∷ cl.LeftParen ∷ cl.TypeParen ∷ cl.LiteralParen ∷ cl.LeftBracket ∷ cl.Star ∷ []); goes = (cl.Ident ∷ cl.IdentColon ∷ cl.TypedefName ∷ cl.TypedefColon ∷ cl.LeftParen ∷ cl.TypeParen ∷ cl.LiteralParen ∷ cl.LeftBracket ∷ cl.Star ∷ cl.Const ∷ cl.Restrict ∷ cl.Volatile ∷ cl.Atomic ∷ []); shuns = None; flat = true } ∷
+    record { kinds = (287 ∷ 291 ∷ 316 ∷ 319 ∷ 321 ∷ 325 ∷ 328 ∷ 331 ∷ 284 ∷ 333 ∷ 334 ∷ 335 ∷ 293 ∷ 294 ∷ 298 ∷ 301 ∷ 305 ∷ 307 ∷ 310 ∷ 359 ∷ 362 ∷ 366 ∷ 368 ∷ 370 ∷ 373 ∷ 285 ∷ []); openers = (286 ∷ 332 ∷ []); suffixes = (311 ∷ 281 ∷ 354 ∷ []); firsts = (cl.Ident ∷ cl.IdentColon ∷ cl.TypedefName ∷ cl.TypedefColon ∷ cl.LeftParen ∷ cl.TypeParen ∷ cl.LiteralParen ∷ cl.LeftBracket ∷ cl.Star ∷ []); goes = (cl.Ident ∷ cl.IdentColon ∷ cl.TypedefName ∷ cl.TypedefColon ∷ cl.LeftParen ∷ cl.TypeParen ∷ cl.LiteralParen ∷ cl.LeftBracket ∷ cl.Star ∷ cl.Const ∷ cl.Restrict ∷ cl.Volatile ∷ cl.Atomic ∷ []); shuns = None; flat = true } ∷
     -- DirectAnyDeclarator
     record { kinds = (287 ∷ 291 ∷ 316 ∷ 319 ∷ 321 ∷ 325 ∷ 328 ∷ 331 ∷ 293 ∷ 294 ∷ 298 ∷ 301 ∷ 305 ∷ 307 ∷ 310 ∷ 359 ∷ 362 ∷ 366 ∷ 368 ∷ 370 ∷ 373 ∷ []); openers = (286 ∷ []); suffixes = (311 ∷ 354 ∷ []); firsts = (cl.Ident ∷ cl.IdentColon ∷ cl.TypedefName ∷ cl.TypedefColon ∷ cl.LeftParen ∷ cl.TypeParen ∷ cl.LiteralParen ∷ cl.LeftBracket ∷ []); goes = (cl.LeftParen ∷ cl.TypeParen ∷ cl.LiteralParen ∷ cl.LeftBracket ∷ []); shuns = None; flat = true } ∷
     -- ClosedStatement
@@ -1282,15 +1282,15 @@ goals =
     -- OpenIterationStatement
     record { kinds = (462 ∷ 473 ∷ 481 ∷ []); openers = (449 ∷ []); suffixes = []; firsts = (cl.While ∷ cl.Do ∷ cl.For ∷ []); goes = []; shuns = None; flat = false } ∷
     -- UnlabelledExpression
-    record { kinds = (158 ∷ 142 ∷ 138 ∷ 132 ∷ 128 ∷ 124 ∷ 120 ∷ 116 ∷ 110 ∷ 112 ∷ 100 ∷ 102 ∷ 104 ∷ 106 ∷ 94 ∷ 96 ∷ 88 ∷ 90 ∷ 80 ∷ 82 ∷ 84 ∷ 76 ∷ 51 ∷ 53 ∷ 55 ∷ 57 ∷ 60 ∷ 64 ∷ 28 ∷ 31 ∷ 33 ∷ 35 ∷ 36 ∷ 37 ∷ 44 ∷ 46 ∷ 2 ∷ 3 ∷ 4 ∷ 7 ∷ 14 ∷ []); openers = (49 ∷ 38 ∷ 1 ∷ 8 ∷ 72 ∷ []); suffixes = (155 ∷ 139 ∷ 24 ∷ 133 ∷ 129 ∷ 125 ∷ 121 ∷ 117 ∷ 113 ∷ 107 ∷ 97 ∷ 91 ∷ 85 ∷ 77 ∷ []); firsts = (cl.Ident ∷ cl.TypedefName ∷ cl.Constant ∷ cl.String ∷ cl.LeftParen ∷ cl.TypeParen ∷ cl.LiteralParen ∷ cl.PlusPlus ∷ cl.MinusMinus ∷ cl.Ampersand ∷ cl.Star ∷ cl.Plus ∷ cl.Minus ∷ cl.Tilde ∷ cl.Bang ∷ cl.Sizeof ∷ cl.Alignof ∷ cl.Generic ∷ []); goes = (cl.String ∷ cl.LeftParen ∷ cl.TypeParen ∷ cl.LiteralParen ∷ cl.LeftBracket ∷ cl.Dot ∷ cl.Arrow ∷ cl.PlusPlus ∷ cl.MinusMinus ∷ cl.Ampersand ∷ cl.Star ∷ cl.Plus ∷ cl.Minus ∷ cl.Slash ∷ cl.Percent ∷ cl.ShiftLeft ∷ cl.ShiftRight ∷ cl.Less ∷ cl.Greater ∷ cl.LessEqual ∷ cl.GreaterEqual ∷ cl.EqualEqual ∷ cl.BangEqual ∷ cl.Caret ∷ cl.Bar ∷ cl.AndAnd ∷ cl.OrOr ∷ cl.Question ∷ cl.Comma ∷ cl.Equal ∷ cl.StarEqual ∷ cl.SlashEqual ∷ cl.PercentEqual ∷ cl.PlusEqual ∷ cl.MinusEqual ∷ cl.ShiftLeftEqual ∷ cl.ShiftRightEqual ∷ cl.AmpersandEqual ∷ cl.CaretEqual ∷ cl.BarEqual ∷ []); shuns = Some te.Label; flat = true } ∷
+    record { kinds = (14 ∷ 2 ∷ 3 ∷ 4 ∷ 7 ∷ 28 ∷ 31 ∷ 33 ∷ 35 ∷ 36 ∷ 37 ∷ 44 ∷ 46 ∷ 51 ∷ 53 ∷ 55 ∷ 57 ∷ 60 ∷ 64 ∷ 76 ∷ 80 ∷ 82 ∷ 84 ∷ 88 ∷ 90 ∷ 94 ∷ 96 ∷ 100 ∷ 102 ∷ 104 ∷ 106 ∷ 110 ∷ 112 ∷ 116 ∷ 120 ∷ 124 ∷ 128 ∷ 132 ∷ 138 ∷ 142 ∷ 158 ∷ []); openers = (8 ∷ 1 ∷ 38 ∷ 49 ∷ 72 ∷ []); suffixes = (24 ∷ 77 ∷ 85 ∷ 91 ∷ 97 ∷ 107 ∷ 113 ∷ 117 ∷ 121 ∷ 125 ∷ 129 ∷ 133 ∷ 139 ∷ 155 ∷ []); firsts = (cl.Ident ∷ cl.TypedefName ∷ cl.Constant ∷ cl.String ∷ cl.LeftParen ∷ cl.TypeParen ∷ cl.LiteralParen ∷ cl.PlusPlus ∷ cl.MinusMinus ∷ cl.Ampersand ∷ cl.Star ∷ cl.Plus ∷ cl.Minus ∷ cl.Tilde ∷ cl.Bang ∷ cl.Sizeof ∷ cl.Alignof ∷ cl.Generic ∷ []); goes = (cl.String ∷ cl.LeftParen ∷ cl.TypeParen ∷ cl.LiteralParen ∷ cl.LeftBracket ∷ cl.Dot ∷ cl.Arrow ∷ cl.PlusPlus ∷ cl.MinusMinus ∷ cl.Ampersand ∷ cl.Star ∷ cl.Plus ∷ cl.Minus ∷ cl.Slash ∷ cl.Percent ∷ cl.ShiftLeft ∷ cl.ShiftRight ∷ cl.Less ∷ cl.Greater ∷ cl.LessEqual ∷ cl.GreaterEqual ∷ cl.EqualEqual ∷ cl.BangEqual ∷ cl.Caret ∷ cl.Bar ∷ cl.AndAnd ∷ cl.OrOr ∷ cl.Question ∷ cl.Comma ∷ cl.Equal ∷ cl.StarEqual ∷ cl.SlashEqual ∷ cl.PercentEqual ∷ cl.PlusEqual ∷ cl.MinusEqual ∷ cl.ShiftLeftEqual ∷ cl.ShiftRightEqual ∷ cl.AmpersandEqual ∷ cl.CaretEqual ∷ cl.BarEqual ∷ []); shuns = Some te.Label; flat = true } ∷
     -- PlainExpression
-    record { kinds = (158 ∷ 142 ∷ 138 ∷ 132 ∷ 128 ∷ 124 ∷ 120 ∷ 116 ∷ 110 ∷ 112 ∷ 100 ∷ 102 ∷ 104 ∷ 106 ∷ 94 ∷ 96 ∷ 88 ∷ 90 ∷ 80 ∷ 82 ∷ 84 ∷ 76 ∷ 51 ∷ 53 ∷ 55 ∷ 57 ∷ 60 ∷ 64 ∷ 28 ∷ 31 ∷ 33 ∷ 35 ∷ 36 ∷ 37 ∷ 44 ∷ 46 ∷ 2 ∷ 3 ∷ 4 ∷ 7 ∷ 14 ∷ []); openers = (49 ∷ 38 ∷ 1 ∷ 8 ∷ 72 ∷ []); suffixes = (155 ∷ 139 ∷ 24 ∷ 133 ∷ 129 ∷ 125 ∷ 121 ∷ 117 ∷ 113 ∷ 107 ∷ 97 ∷ 91 ∷ 85 ∷ 77 ∷ []); firsts = (cl.Ident ∷ cl.Constant ∷ cl.String ∷ cl.LeftParen ∷ cl.TypeParen ∷ cl.LiteralParen ∷ cl.PlusPlus ∷ cl.MinusMinus ∷ cl.Ampersand ∷ cl.Star ∷ cl.Plus ∷ cl.Minus ∷ cl.Tilde ∷ cl.Bang ∷ cl.Sizeof ∷ cl.Alignof ∷ cl.Generic ∷ []); goes = (cl.String ∷ cl.LeftParen ∷ cl.TypeParen ∷ cl.LiteralParen ∷ cl.LeftBracket ∷ cl.Dot ∷ cl.Arrow ∷ cl.PlusPlus ∷ cl.MinusMinus ∷ cl.Ampersand ∷ cl.Star ∷ cl.Plus ∷ cl.Minus ∷ cl.Slash ∷ cl.Percent ∷ cl.ShiftLeft ∷ cl.ShiftRight ∷ cl.Less ∷ cl.Greater ∷ cl.LessEqual ∷ cl.GreaterEqual ∷ cl.EqualEqual ∷ cl.BangEqual ∷ cl.Caret ∷ cl.Bar ∷ cl.AndAnd ∷ cl.OrOr ∷ cl.Question ∷ cl.Comma ∷ cl.Equal ∷ cl.StarEqual ∷ cl.SlashEqual ∷ cl.PercentEqual ∷ cl.PlusEqual ∷ cl.MinusEqual ∷ cl.ShiftLeftEqual ∷ cl.ShiftRightEqual ∷ cl.AmpersandEqual ∷ cl.CaretEqual ∷ cl.BarEqual ∷ []); shuns = Some te.Marked; flat = true } ∷
+    record { kinds = (14 ∷ 2 ∷ 3 ∷ 4 ∷ 7 ∷ 28 ∷ 31 ∷ 33 ∷ 35 ∷ 36 ∷ 37 ∷ 44 ∷ 46 ∷ 51 ∷ 53 ∷ 55 ∷ 57 ∷ 60 ∷ 64 ∷ 76 ∷ 80 ∷ 82 ∷ 84 ∷ 88 ∷ 90 ∷ 94 ∷ 96 ∷ 100 ∷ 102 ∷ 104 ∷ 106 ∷ 110 ∷ 112 ∷ 116 ∷ 120 ∷ 124 ∷ 128 ∷ 132 ∷ 138 ∷ 142 ∷ 158 ∷ []); openers = (8 ∷ 1 ∷ 38 ∷ 49 ∷ 72 ∷ []); suffixes = (24 ∷ 77 ∷ 85 ∷ 91 ∷ 97 ∷ 107 ∷ 113 ∷ 117 ∷ 121 ∷ 125 ∷ 129 ∷ 133 ∷ 139 ∷ 155 ∷ []); firsts = (cl.Ident ∷ cl.Constant ∷ cl.String ∷ cl.LeftParen ∷ cl.TypeParen ∷ cl.LiteralParen ∷ cl.PlusPlus ∷ cl.MinusMinus ∷ cl.Ampersand ∷ cl.Star ∷ cl.Plus ∷ cl.Minus ∷ cl.Tilde ∷ cl.Bang ∷ cl.Sizeof ∷ cl.Alignof ∷ cl.Generic ∷ []); goes = (cl.String ∷ cl.LeftParen ∷ cl.TypeParen ∷ cl.LiteralParen ∷ cl.LeftBracket ∷ cl.Dot ∷ cl.Arrow ∷ cl.PlusPlus ∷ cl.MinusMinus ∷ cl.Ampersand ∷ cl.Star ∷ cl.Plus ∷ cl.Minus ∷ cl.Slash ∷ cl.Percent ∷ cl.ShiftLeft ∷ cl.ShiftRight ∷ cl.Less ∷ cl.Greater ∷ cl.LessEqual ∷ cl.GreaterEqual ∷ cl.EqualEqual ∷ cl.BangEqual ∷ cl.Caret ∷ cl.Bar ∷ cl.AndAnd ∷ cl.OrOr ∷ cl.Question ∷ cl.Comma ∷ cl.Equal ∷ cl.StarEqual ∷ cl.SlashEqual ∷ cl.PercentEqual ∷ cl.PlusEqual ∷ cl.MinusEqual ∷ cl.ShiftLeftEqual ∷ cl.ShiftRightEqual ∷ cl.AmpersandEqual ∷ cl.CaretEqual ∷ cl.BarEqual ∷ []); shuns = Some te.Marked; flat = true } ∷
     -- BlockStatement
     record { kinds = (409 ∷ 415 ∷ 420 ∷ 408 ∷ 414 ∷ 419 ∷ 424 ∷ 496 ∷ 441 ∷ 448 ∷ 436 ∷ 437 ∷ 440 ∷ 447 ∷ 456 ∷ 463 ∷ 474 ∷ 482 ∷ 462 ∷ 473 ∷ 481 ∷ 486 ∷ 488 ∷ 490 ∷ 493 ∷ []); openers = (404 ∷ 421 ∷ 494 ∷ 430 ∷ 449 ∷ 483 ∷ []); suffixes = []; firsts = (cl.Ident ∷ cl.IdentColon ∷ cl.TypedefColon ∷ cl.Constant ∷ cl.String ∷ cl.LeftParen ∷ cl.TypeParen ∷ cl.LiteralParen ∷ cl.LeftBrace ∷ cl.PlusPlus ∷ cl.MinusMinus ∷ cl.Ampersand ∷ cl.Star ∷ cl.Plus ∷ cl.Minus ∷ cl.Tilde ∷ cl.Bang ∷ cl.Semicolon ∷ cl.Sizeof ∷ cl.Alignof ∷ cl.Generic ∷ cl.Default ∷ cl.Case ∷ cl.If ∷ cl.Switch ∷ cl.While ∷ cl.Do ∷ cl.For ∷ cl.Goto ∷ cl.Continue ∷ cl.Break ∷ cl.Return ∷ []); goes = []; shuns = None; flat = false } ∷
     -- BlockExpressionStatement
     record { kinds = (496 ∷ []); openers = (494 ∷ []); suffixes = []; firsts = (cl.Ident ∷ cl.Constant ∷ cl.String ∷ cl.LeftParen ∷ cl.TypeParen ∷ cl.LiteralParen ∷ cl.PlusPlus ∷ cl.MinusMinus ∷ cl.Ampersand ∷ cl.Star ∷ cl.Plus ∷ cl.Minus ∷ cl.Tilde ∷ cl.Bang ∷ cl.Semicolon ∷ cl.Sizeof ∷ cl.Alignof ∷ cl.Generic ∷ []); goes = []; shuns = None; flat = true } ∷
     -- BlockDeclaration
-    record { kinds = (500 ∷ 403 ∷ []); openers = (497 ∷ 396 ∷ []); suffixes = []; firsts = (cl.TypedefName ∷ cl.StaticAssert ∷ cl.Typedef ∷ cl.Extern ∷ cl.Static ∷ cl.ThreadLocal ∷ cl.Auto ∷ cl.Register ∷ cl.Void ∷ cl.Char ∷ cl.Short ∷ cl.Int ∷ cl.Long ∷ cl.Float ∷ cl.Double ∷ cl.Signed ∷ cl.Unsigned ∷ cl.Bool ∷ cl.Struct ∷ cl.Union ∷ cl.Enum ∷ cl.Const ∷ cl.Restrict ∷ cl.Volatile ∷ cl.Atomic ∷ cl.AtomicParen ∷ cl.Inline ∷ cl.Noreturn ∷ cl.Alignas ∷ []); goes = []; shuns = None; flat = true } ∷
+    record { kinds = (403 ∷ 500 ∷ []); openers = (396 ∷ 497 ∷ []); suffixes = []; firsts = (cl.TypedefName ∷ cl.StaticAssert ∷ cl.Typedef ∷ cl.Extern ∷ cl.Static ∷ cl.ThreadLocal ∷ cl.Auto ∷ cl.Register ∷ cl.Void ∷ cl.Char ∷ cl.Short ∷ cl.Int ∷ cl.Long ∷ cl.Float ∷ cl.Double ∷ cl.Signed ∷ cl.Unsigned ∷ cl.Bool ∷ cl.Struct ∷ cl.Union ∷ cl.Enum ∷ cl.Const ∷ cl.Restrict ∷ cl.Volatile ∷ cl.Atomic ∷ cl.AtomicParen ∷ cl.Inline ∷ cl.Noreturn ∷ cl.Alignas ∷ []); goes = []; shuns = None; flat = true } ∷
     -- BlockSpecifiers
     record { kinds = (164 ∷ 165 ∷ []); openers = (163 ∷ []); suffixes = []; firsts = (cl.TypedefName ∷ cl.Typedef ∷ cl.Extern ∷ cl.Static ∷ cl.ThreadLocal ∷ cl.Auto ∷ cl.Register ∷ cl.Void ∷ cl.Char ∷ cl.Short ∷ cl.Int ∷ cl.Long ∷ cl.Float ∷ cl.Double ∷ cl.Signed ∷ cl.Unsigned ∷ cl.Bool ∷ cl.Struct ∷ cl.Union ∷ cl.Enum ∷ cl.Const ∷ cl.Restrict ∷ cl.Volatile ∷ cl.Atomic ∷ cl.AtomicParen ∷ cl.Inline ∷ cl.Noreturn ∷ cl.Alignas ∷ []); goes = (cl.LeftBrace ∷ cl.Typedef ∷ cl.Extern ∷ cl.Static ∷ cl.ThreadLocal ∷ cl.Auto ∷ cl.Register ∷ cl.Void ∷ cl.Char ∷ cl.Short ∷ cl.Int ∷ cl.Long ∷ cl.Float ∷ cl.Double ∷ cl.Signed ∷ cl.Unsigned ∷ cl.Bool ∷ cl.Struct ∷ cl.Union ∷ cl.Enum ∷ cl.Const ∷ cl.Restrict ∷ cl.Volatile ∷ cl.Atomic ∷ cl.AtomicParen ∷ cl.Inline ∷ cl.Noreturn ∷ cl.Alignas ∷ []); shuns = Some te.Label; flat = true } ∷
     -- FunctionBody
