@@ -1,4 +1,4 @@
-"""Writes crates/cl_expr/src/table.rt and *_rows.rt, specs/code/Table.antt and proofs/All.antt from the places of the productions."""
+"""Writes crates/cl_expr/src/table.rt and *_rows.rt, specs/code/Table.antt, specs/code/Looks.antt and proofs/All.antt from the places of the productions."""
 import os
 from emit_tree import *
 from places import *
