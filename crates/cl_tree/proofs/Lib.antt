@@ -1,4 +1,5 @@
 mod BadBlocks
 mod BadItems
+mod Firsts
 mod Frames
 mod Learning

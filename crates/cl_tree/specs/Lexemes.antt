@@ -4,6 +4,8 @@ use Rattle.std.specs.Cmp.Lexicographic.{pointwise}
 use Rattle.cl_base.specs.declared.token.PpToken.{PpToken}
 use Rattle.cl_tree.specs.declared.shape.Ahead.{Ahead}
 use Rattle.cl_tree.specs.declared.shape.Ahead.TheVariants as ahead
+use Rattle.cl_tree.specs.declared.shape.Raw.{Raw}
+use Rattle.cl_tree.specs.declared.shape.Raw.TheVariants as raw
 use Rattle.cl_tree.specs.declared.lexeme.Lexeme.{Lexeme}
 use Rattle.cl_tree.specs.Brackets.{partner_by}
 use Rattle.cl_tree.specs.Shapes.{shape_of}
@@ -32,11 +34,16 @@ literal_by tokens (Some partner) = is_brace tokens (partner + 1)
 abbrev pub is_literal : List PpToken → List ℕ → ℕ → Bool
 is_literal tokens pairs i = literal_by tokens (slice_get pairs i)
 
+-- an identifier alone is a typedef name
+abbrev pub typed_by : Raw → Bool → Bool
+typed_by raw.Word typed = typed
+typed_by _ typed = false
+
 -- a token, where it is said which names are typedef names before the first one, and these are the partners of the brackets
 abbrev pub lexeme_of : (List ℕ → Bool) → List ℕ → List PpToken → ℕ → PpToken → Lexeme
 lexeme_of typedefs pairs tokens i token = record {
   shape = shape_of (sort_of token).raw (ahead_at tokens (i + 1)) (is_literal tokens pairs i);
-  typed = typedefs token.text;
+  typed = typed_by (sort_of token).raw (typedefs token.text);
   partner = partner_by (slice_get pairs i);
   text = token.text;
 }

@@ -5,6 +5,7 @@ ghost use Rattle.cl_tree.specs.Brackets as b;
 ghost use Rattle.cl_tree.specs.Ends.{last};
 ghost use Rattle.cl_tree.specs.declared.bracket.Side.TheVariants as side;
 
+use crate::spelling::same_text;
 use cl_base::{List, Mem, Memory, PpToken};
 use std::alloc::Global;
 
@@ -47,17 +48,17 @@ fn bracket_of(token: &PpToken) -> Bracket
     let text = token.text.bytes();
     if !token.kind.is_punct() {
         Bracket::None
-    } else if text == b"(".as_slice() {
+    } else if same_text(text, b"(".as_slice()) {
         Bracket::Open(Side::Round)
-    } else if text == b")".as_slice() {
+    } else if same_text(text, b")".as_slice()) {
         Bracket::Close(Side::Round)
-    } else if text == b"[".as_slice() || text == b"<:".as_slice() {
+    } else if same_text(text, b"[".as_slice()) || same_text(text, b"<:".as_slice()) {
         Bracket::Open(Side::Square)
-    } else if text == b"]".as_slice() || text == b":>".as_slice() {
+    } else if same_text(text, b"]".as_slice()) || same_text(text, b":>".as_slice()) {
         Bracket::Close(Side::Square)
-    } else if text == b"{".as_slice() || text == b"<%".as_slice() {
+    } else if same_text(text, b"{".as_slice()) || same_text(text, b"<%".as_slice()) {
         Bracket::Open(Side::Curly)
-    } else if text == b"}".as_slice() || text == b"%>".as_slice() {
+    } else if same_text(text, b"}".as_slice()) || same_text(text, b"%>".as_slice()) {
         Bracket::Close(Side::Curly)
     } else {
         Bracket::None

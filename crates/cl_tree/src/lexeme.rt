@@ -6,12 +6,12 @@ ghost use Rattle.cl_tree.specs.Lexemes as l;
 ghost use Rattle.cl_tree.specs.Sets.{has};
 
 use crate::set::NameSet;
-use crate::shape::{Ahead, Shape, shape_of};
+use crate::shape::{Ahead, Raw, Shape, shape_of};
 use crate::spelling::sort_of;
 use cl_base::{Duplicate, List, Mem, Name, PpToken};
 use std::alloc::Global;
 
-/// A token as the grammar reads it: its shape, whether its spelling is a typedef name before the first token of its item, the
+/// A token as the grammar reads it: its shape, whether it is an identifier that is a typedef name before the first token of its item, the
 /// number of its bracket's partner (its own without one), and its spelling.
 #[derive(Drop)]
 pub struct Lexeme {
@@ -62,6 +62,16 @@ fn partner_of(pairs: &[u32], at: usize) -> u32
     }
 }
 
+/// Whether a token is an identifier that is one of these names.
+fn is_typedef(typedefs: &NameSet, raw: Raw, text: &Name) -> bool
+    ensures { result ≡ l.typed_by raw (has typedefs.now text.now) }
+{
+    match raw {
+        Raw::Word => typedefs.has(text),
+        _ => false,
+    }
+}
+
 /// A token as the grammar reads it.
 fn read_lexeme(
     alloc: Global,
@@ -80,7 +90,7 @@ fn read_lexeme(
         ahead_at(tokens, at + 1),
         is_literal(tokens, pairs, at),
     );
-    let typed = typedefs.has(&token.text);
+    let typed = is_typedef(typedefs, sort.raw, &token.text);
     let text = token.text.duplicate(alloc)?;
     let partner = partner_of(pairs, at);
     Ok(Lexeme {

@@ -377,6 +377,17 @@ pub fn pass(tokens: &[Lexeme], scope: Scope, act: Act, at: u32) -> Mem<Scope>
 {
     match act {
         Act::Stay => Ok(scope),
+        _ => acted(tokens, scope, act, at),
+    }
+}
+
+/// The same, where most acts change something.
+#[tactic(auto, unfolding(crate::specs::Scopes::pass))]
+fn acted(tokens: &[Lexeme], scope: Scope, act: Act, at: u32) -> Mem<Scope>
+    ensures { IfOk result (λ after. after ≡ s.pass tokens.now scope act at) }
+{
+    match act {
+        Act::Stay => Ok(scope),
         Act::Typedef => Ok(Scope {
             typing: true,
             pending: scope.pending,
