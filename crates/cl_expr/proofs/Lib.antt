@@ -5,6 +5,7 @@ mod Checks
 mod Climb
 mod Conditions
 mod Dangling
+mod Deciding
 mod Elses
 mod Endings
 mod External
@@ -15,5 +16,6 @@ mod Numbers
 mod Reading
 mod Rows
 mod Scans
+mod Settled
 mod WithElse
 mod Within

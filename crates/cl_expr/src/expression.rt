@@ -1,6 +1,6 @@
 //! The one tree of a list of tokens.
 
-ghost use Rattle.std.specs.Prelude.{◌≡◌, ◌<◌, ◌^◌, ◌-◌, Some, IfOk, IfSome, length, List, ℕ, true, false};
+ghost use Rattle.std.specs.Prelude.{◌⊎◌, ◌≡◌, ◌<◌, ◌^◌, ◌-◌, Some, IfOk, IfSome, length, List, ℕ, true, false};
 ghost use Rattle.cl_base.specs.declared.token.PpToken.{PpToken as TheToken};
 ghost use Rattle.cl_tree.specs.Derives.{Derives, External, Spans, SpansFrom};
 ghost use Rattle.cl_tree.specs.Scopes.{class_at};
@@ -135,4 +135,11 @@ pub fn parse_expr(alloc: Global, tokens: &[PpToken], typedefs: &NameSet) -> Mem<
 pub fn one_tree()
     ensures one { (g : TheNonterminal) (names : TheNames) (tokens : List TheToken) (t u : TheTree) → Derives g names tokens t → Derives g names tokens u → t ≡ u }
     ensures external { (ts : List TheLexeme) (s : TheScope) (at : ℕ) (t u : TheTree) (w x : TheScope) → External ts s at t w → External ts s at u x → (t ≡ u) × (w ≡ x) }
+{}
+
+/// From a token on a nonterminal has a tree on all of the tokens, or it has none: which of the two is settled, for want of
+/// nothing.
+pub fn tree_or_none()
+    ensures one { (g : TheNonterminal) (ts : List TheLexeme) (s : TheScope) (at : ℕ) → ((t : TheTree) × (w : TheScope) × SpansFrom g ts s at t w) ⊎ ((t : TheTree) (w : TheScope) → SpansFrom g ts s at t w → ⊥) }
+    ensures external { (ts : List TheLexeme) (s : TheScope) (at : ℕ) → ((t : TheTree) × (w : TheScope) × External ts s at t w) ⊎ ((t : TheTree) (w : TheScope) → External ts s at t w → ⊥) }
 {}

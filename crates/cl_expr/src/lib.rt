@@ -12,4 +12,6 @@ mod reader;
 mod scan;
 mod table;
 
-pub use expression::{ExprTree, Parsed, one_tree, parse, parse_expr, parse_external, parse_from};
+pub use expression::{
+    ExprTree, Parsed, one_tree, parse, parse_expr, parse_external, parse_from, tree_or_none,
+};

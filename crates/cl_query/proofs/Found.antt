@@ -1,5 +1,5 @@
 -- What was found is the query's answer, or the header that it needs.
-use Rattle.std.proofs.Common.{◌≡◌, ◌≢◌, ℕ, zero, suc, ◌-◌, Bool, true, false, List, [], ◌∷◌, Option, Some, None, refl, sym, ap, subst, ◌∙◌, length, map, ◌<◌, arith}
+use Rattle.std.proofs.Common.{◌≡◌, ◌≢◌, ℕ, zero, suc, ◌-◌, Bool, true, false, List, [], ◌∷◌, Option, Some, None, refl, sym, ap, subst, ◌∙◌, length, map, ◌<◌, ◌⊎◌, inl, inr, arith}
 use Rattle.std.specs.Prelude.{if◌then◌else◌, slice_get, unwrap_or, MatchOption}
 use Rattle.std.specs.List.{AllByRecursion}
 use Rattle.std.specs.Map.{lookup}
@@ -152,8 +152,9 @@ module _ (config : Settings) (headers : Headers) (path text : List ℕ) (first :
 
 -- ---- every query comes to something
 
-pub some_by : ((tokens : List PpToken) → ((items : List Item) → ItemsOf no_names tokens items → ⊥) → ⊥) → (config : Settings) (headers : Headers) (path text : List ℕ) (answer : PpAnswer) → Preprocesses config (known_of headers) path text answer
-    → ((x : Answer) → AnswerOf Symbols config headers path text x → ⊥) → ((needed : List ℕ) → NeedsOf Symbols config headers path text needed → ⊥) → ⊥
-some_by some config headers path text (pp.Done done) p k m =
-    some done.tokens (λ items parses. k (Listed (symbols_in text done.tokens items)) (answer_of_symbols config headers path text done items (symbols_in text done.tokens items) p parses refl))
-some_by some config headers path text (pp.Need needed) p k m = m needed (needs_of_symbols config headers path text needed p)
+pub some_by : ((tokens : List PpToken) → (items : List Item) × ItemsOf no_names tokens items) → (config : Settings) (headers : Headers) (path text : List ℕ) (answer : PpAnswer) → Preprocesses config (known_of headers) path text answer
+    → ((x : Answer) × AnswerOf Symbols config headers path text x) ⊎ ((needed : List ℕ) × NeedsOf Symbols config headers path text needed)
+some_by some config headers path text (pp.Done done) p =
+    let s = some done.tokens in
+    inl (Listed (symbols_in text done.tokens s.0), answer_of_symbols config headers path text done s.0 (symbols_in text done.tokens s.0) p s.1 refl)
+some_by some config headers path text (pp.Need needed) p = inr (needed, needs_of_symbols config headers path text needed p)

@@ -1,6 +1,6 @@
 //! What holds of every query.
 
-ghost use Rattle.std.specs.Prelude.{◌≡◌, ℕ, List};
+ghost use Rattle.std.specs.Prelude.{◌≡◌, ◌⊎◌, ℕ, List};
 ghost use Rattle.cl_base.specs.declared.answer.Answer.{Answer};
 ghost use Rattle.cl_base.specs.declared.query.Query.{Query};
 ghost use Rattle.cl_base.specs.declared.config.Settings.{Settings};
@@ -17,9 +17,9 @@ pub fn one_answer()
     one_item_list();
 }
 
-/// It can't be that a query about a text has no answer and needs no header, under any settings and with any headers.
+/// A query about a text has an answer or needs a header, under any settings and with any headers.
 pub fn some_answer()
-    ensures { (kind : Query) (config : Settings) (headers : Headers) (path text : List ℕ) → ((answer : Answer) → AnswerOf kind config headers path text answer → ⊥) → ((needed : List ℕ) → NeedsOf kind config headers path text needed → ⊥) → ⊥ }
+    ensures { (kind : Query) (config : Settings) (headers : Headers) (path text : List ℕ) → ((answer : Answer) × AnswerOf kind config headers path text answer) ⊎ ((needed : List ℕ) × NeedsOf kind config headers path text needed) }
 {
     some_preprocessing();
     some_item_list();
