@@ -63,8 +63,8 @@ module _ (cs : List Lexeme) (h : ℕ) (s : Scope) (at : ℕ) where
   closed_item : Parses cs (suc h) s nt.BlockItem at None → (k : Class) → class_at cs s at ≡ Some k → (k ≡ cl.RightBrace → ⊥) → (b : Bool) → closes_at cs at ≡ b → PartOf cs (suc h) s None Entry at
   closed_item p k token not true closes = (None, entry_closed cs (suc h) s at p closes)
   closed_item p k token not false closes = (
-      Some (record { tree = bad at (bad_end cs at); place = 0; scope = s; height = 1 }),
-      entry_bad cs (suc h) s at p k token not closes (omega arith) (end_grows cs at (class_within cs s at k token) closes) (end_within cs at),
+    Some (record { tree = bad at (bad_end cs at); place = 0; scope = s; height = 1 }),
+    entry_bad cs (suc h) s at p k token not closes (omega arith) (end_grows cs at (class_within cs s at k token) closes) (end_within cs at),
   )
 
   read_item : (k : Class) → class_at cs s at ≡ Some k → (k ≡ cl.RightBrace → ⊥) → (o : Option Found) → Parses cs (suc h) s nt.BlockItem at o → PartOf cs (suc h) s None Entry at
@@ -115,8 +115,8 @@ module _ (cs : List Lexeme) (h : ℕ) (nest : (s : Scope) (g : Nonterminal) (at 
     labelled : (sm : Scope) (q : ℕ) (ps : List Tree) (mid height : ℕ) → Half cs h sa sm q ps from mid height → Named q mid → Stuck cs h sm q mid → Free sm q mid → (o : Option Label) → name_of q ≡ o → NodeOf sm q ps mid
     labelled sm q ps mid height half some stuck free None is = (None, node_unnamed cs h sa sm q ps from mid height half stuck is)
     labelled sm q ps mid height half some stuck free (Some n) is = (
-        Some (record { tree = node n from mid ps; place = q; scope = leave (scoped q) sa sm; height = height + 1 }),
-        node_ended cs h sa sm q ps from mid height half stuck n (some n is) (is, free),
+      Some (record { tree = node n from mid ps; place = q; scope = leave (scoped q) sa sm; height = height + 1 }),
+      node_ended cs h sa sm q ps from mid height half stuck n (some n is) (is, free),
     )
 
     node_of : (sm : Scope) (q : ℕ) (ps : List Tree) (mid height : ℕ) → Half cs h sa sm q ps from mid height → Named q mid → Stuck cs h sm q mid → Free sm q mid → NodeOf sm q ps mid

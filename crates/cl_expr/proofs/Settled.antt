@@ -18,7 +18,8 @@ use Rattle.cl_expr.specs.declared.table.Edge.{Edge}
 use Rattle.cl_expr.specs.declared.table.Head.{Head}
 use Rattle.cl_expr.specs.code.Table.{edges, corner, kinds, firsts, entry_classes}
 use Rattle.cl_expr.specs.code.Parses.{Begins, BeginsSymbol, Enters, GoesOn}
-use Rattle.cl_expr.proofs.All.{class_number, same_class_is}
+use Rattle.cl_expr.specs.code.Looks.{class_number}
+use Rattle.cl_expr.proofs.All.{same_class_is}
 use Rattle.cl_expr.proofs.Bars.{all_open, past_open, not_open, is_open}
 use Rattle.cl_expr.proofs.Checks.{member, member_has, has_member, some_is, none_not}
 
