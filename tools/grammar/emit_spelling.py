@@ -15,7 +15,8 @@ PUNCTS = [(s, c, AHEAD.get(c, 'Other')) for s, c in PUN]
 if __name__ == '__main__':
     o = '''//! The keywords and punctuators of the grammar.
 
-ghost use Rattle.std.specs.Prelude.{◌≡◌, map};
+ghost use Rattle.std.specs.Prelude.{◌≡◌, ℕ, Some, true, length, map, nat_eq, slice_get};
+ghost use Rattle.std.specs.Cmp.Lexicographic.{pointwise};
 ghost use Rattle.cl_tree.specs.Spellings as s;
 
 use crate::class::Class;
@@ -63,12 +64,55 @@ fn punctuators() -> &'static [Spelling]
     &PUNCTUATORS
 }
 
+/// The first byte of a text.
+fn first_byte(text: &[u8]) -> Option<u8>
+    ensures { result ≡ slice_get text.now 0 }
+{
+    text.get(0).copied()
+}
+
+/// Whether two first bytes are there and differ.
+fn differ(one: Option<u8>, other: Option<u8>) -> bool
+    ensures { result ≡ true → (a b : ℕ) × (one ≡ Some a) × (other ≡ Some b) × (a ≡ b → ⊥) }
+{
+    match one {
+        Some(a) => match other {
+            Some(b) => a != b,
+            None => false,
+        },
+        None => false,
+    }
+}
+
+/// Whether two texts differ in their lengths.
+fn uneven(one: &[u8], other: &[u8]) -> bool
+    ensures { result ≡ true → length one.now ≡ length other.now → ⊥ }
+{
+    one.len() != other.len()
+}
+
+/// Whether two texts are one: most differ in their lengths or first bytes.
+pub fn same_text(one: &[u8], other: &[u8]) -> bool
+    ensures { result ≡ pointwise nat_eq one.now other.now }
+{
+    let uneven = uneven(one, other);
+    if uneven {
+        return false;
+    }
+    let apart = differ(first_byte(one), first_byte(other));
+    if apart {
+        return false;
+    }
+    one == other
+}
+
 /// What a spelling stands for in a table, or else this.
 fn find(table: &[Spelling], text: &[u8], other: Sort) -> Sort
     ensures { result ≡ s.find (map s.plain table.now) text.now other }
 {
     for row in table {
-        if row.text == text {
+        let same = same_text(row.text, text);
+        if same {
             return row.sort;
         }
     }
@@ -102,7 +146,7 @@ fn plain(raw: Raw) -> Sort
 '''
     w('src/spelling.rt', o)
     a = '''-- The keywords and punctuators of the grammar, and what they stand for.
-use Rattle.std.specs.Prelude.{ℕ, List, [], ◌∷◌, Bool, true, false, cond, nat_eq, codes}
+use Rattle.std.specs.Prelude.{ℕ, List, [], ◌∷◌, cond, nat_eq, codes}
 use Rattle.std.specs.Cmp.Lexicographic.{pointwise}
 use Rattle.cl_base.specs.declared.token.Kind.{Kind}
 use Rattle.cl_base.specs.declared.token.Kind.TheVariants as kind
