@@ -100,10 +100,10 @@ def main(words):
     options, files = [], []
     rest = iter(words)
     for word in rest:
-        if word in ("-I", "-D"):
+        if word == "-I":
+            options += [word, str(Path(next(rest)).resolve())]
+        elif word == "-D":
             options += [word, next(rest)]
-        elif word.startswith("-"):
-            options.append(word)
         else:
             files.append(Path(word).resolve())
     options += [word for folder in folders_of_gcc() for word in ("-I", folder)]
