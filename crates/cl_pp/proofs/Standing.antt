@@ -6,17 +6,7 @@ use Rattle.cl_cond.specs.declared.mark.Part.TheVariants.{Line, Branch, End}
 use Rattle.cl_cond.specs.Sections.{opens}
 use Rattle.cl_pp.specs.declared.section.Section.{Section}
 use Rattle.cl_pp.specs.Activity.{Passed, Question, Active, Free, Outer, at_branch, by_part, says}
-use Rattle.cl_pp.specs.code.Stacks.{all_active, below, stacked, tell, top_of, under}
-
-abbrev nth : List Section → ℕ → Section
-nth stack n = slice_index_or stack n all_active
-
--- the answers are those of the sections
-abbrev Tells : (Question → ℕ → Bool) → List Section → Type 0
-Tells f stack = (q : Question) (n : ℕ) → f q n ≡ tell (nth stack n) q
-
-abbrev pub Stand : List Passed → List Section → Type 0
-Stand past stack = Tells (λ q n. says q n past) stack
+use Rattle.cl_pp.specs.code.Stacks.{Stand, Tells, below, nth, stacked, tell, top_of, under}
 
 top_is : (stack : List Section) → nth stack 0 ≡ top_of stack
 top_is [] = refl

@@ -12,4 +12,5 @@ pub mod Taking
 pub mod Preprocessing
 pub mod Before
 pub mod Places
+pub mod Resuming
 pub mod code

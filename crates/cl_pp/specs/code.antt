@@ -7,3 +7,4 @@ pub mod Operands
 pub mod Reaching
 pub mod Shelving
 pub mod Deciding
+pub mod Resuming

@@ -1,5 +1,6 @@
 //! What preprocessing gives.
 
+use crate::work::PpWork;
 use cl_base::{Diag, List, MacroEvent, Name, Path, PpToken};
 use cl_headers::Dep;
 use cl_macro::MacroUse;
@@ -27,4 +28,21 @@ pub struct PpDone {
 pub enum PpAnswer {
     Done(PpDone),
     Need(Path),
+}
+
+/// A header that is needed: its path, the headers that were asked for so far, in order, each with what was known of it, this
+/// one last, and the work, which goes on where more is known.
+#[derive(Drop)]
+pub struct PpNeed {
+    pub path: Path,
+    pub seen: List<Dep>,
+    pub work: PpWork,
+}
+
+/// Where work on a text stops: at its end, with what preprocessing gives, or at the first header that was asked for and of
+/// which nothing is known.
+#[derive(Drop)]
+pub enum PpStep {
+    Done(PpDone),
+    Need(PpNeed),
 }

@@ -1,93 +1,75 @@
-//! Goes over a file, and over those that it enters.
+//! Goes over the lines of a file.
 
-ghost use Rattle.std.specs.Prelude.{◌≡◌, ◌≤◌, reverse, length, OnOk, IfOk};
-ghost use Rattle.cl_headers.specs.Noting.{IsNoted};
+ghost use Rattle.std.specs.Prelude.{◌≡◌, ◌≤◌, false, reverse, length, OnOk, IfOk, List as TheList, ℕ};
+ghost use Rattle.cl_pp.specs.Activity.{Passed};
 ghost use Rattle.cl_pp.specs.Lines.{line_of};
 ghost use Rattle.cl_pp.specs.Places.{Within};
-ghost use Rattle.cl_pp.specs.Preprocessing.{Reads, World};
-ghost use Rattle.cl_pp.specs.Standing.{Start};
+ghost use Rattle.cl_pp.specs.Preprocessing.{World};
+ghost use Rattle.cl_pp.specs.Standing.{Start, is_stopped};
 ghost use Rattle.cl_pp.specs.code.Going.{ComesBy};
 ghost use Rattle.cl_pp.specs.code.Keeping.{Keeps, Sees, Suits};
-ghost use Rattle.cl_pp.specs.code.Reaching.{IsIn, IsLaid};
-ghost use Rattle.cl_pp.specs.code.Shelving.{IsSound};
-ghost use Rattle.cl_pp.specs.code.Stacks.{stacked, tell, top_of};
+ghost use Rattle.cl_pp.specs.code.Reaching.{IsLaid};
+ghost use Rattle.cl_pp.specs.code.Resuming.{IsAt, Passes};
+ghost use Rattle.cl_pp.specs.code.Stacks.{Stand, stacked, tell, top_of};
 
 use crate::act::act;
-use crate::aim::Came;
-use crate::made::{Entry, File, Made};
-use crate::open::begin;
-use crate::reach::{is_stopped, reach};
+use crate::aim::{Aim, Came, Target};
+use crate::made::{File, Made, Place, Source};
+use crate::reach::mark;
 use crate::section::{Section, is_skipped, pass, top};
-use crate::shelf::Shelf;
-use cl_base::{Config, List, Mem, Token};
+use cl_base::{List, Mem, Token};
 use cl_cond::Mark;
-use cl_headers::HeaderView;
 use cl_macro::{MacroBase, MacroTable};
 use std::alloc::Global;
 
-/// Goes over a file, and over each that it enters.
-pub(crate) fn read<B: MacroBase, V: HeaderView>(
+/// Goes over the lines of a file from a place on, up to the first that names a header, and answers that header.
+pub(crate) fn lines<B: MacroBase>(
     alloc: Global,
-    config: &Config,
-    view: &mut V,
+    source: &Source,
+    place: &mut Place,
     table: &mut MacroTable,
     base: &B,
     made: &mut Made,
-    shelf: &mut Shelf,
-    entry: &Entry,
-) -> Mem<()>
-    requires depth { entry.now.depth ≤ 200 }
-    requires laid { IsLaid entry.now.text.now entry.now.opened.now }
-    requires sound { IsSound (V.known view.now) shelf.now }
+) -> Mem<Option<Target>>
+    requires laid { IsLaid source.now.text source.now.opened.value }
     requires sees { Sees made.now }
-    ensures done { (w : World) → IsIn entry.now config.now (V.known view.old) w → Keeps (B.macros base.now) (B.events base.now) w.start table.old made.old.done → OnOk result (Reads w made.old.done made.new.done) }
+    ensures done { (w : World) (past : TheList Passed) → IsAt source.now w → is_stopped made.old.done ≡ false → Stand past (reverse place.old.sections) → Keeps (B.macros base.now) (B.events base.now) w.start table.old made.old.done
+        → IfOk result (λ target. Passes w source.now.opened.value past place.old made.old.done place.new made.new.done target) }
     ensures keeps { (start : Start) → Keeps (B.macros base.now) (B.events base.now) start table.old made.old.done → OnOk result (Keeps (B.macros base.now) (B.events base.now) start table.new made.new.done) }
     ensures sees { OnOk result (Sees made.new) }
-    ensures fixed { V.known view.new ≡ V.known view.old }
-    ensures sound { OnOk result (IsSound (V.known view.old) shelf.new) }
-    ensures noted { OnOk result (IsNoted (V.known view.old) made.old.done.deps made.new.done.deps (V.asked view.old) (V.asked view.new)) }
+    ensures deps { OnOk result (made.new.done.deps ≡ made.old.done.deps) }
 {
-    begin(made, entry)?;
-    let opened = entry.opened;
+    let opened = &source.opened;
     let file = File {
-        number: entry.number,
-        path: entry.path,
+        number: source.number,
+        path: &source.path,
         lines: &opened.lines,
         told: &opened.told,
     };
     let tokens = opened.lexed.tokens.as_slice();
     let marks = opened.marks.as_slice();
-    let mut sections = List::new(alloc);
-    for mark in marks {
-        if is_stopped(&made.done) {
-            return Ok(());
-        }
-        if is_skipped(mark.part, sections.as_slice()) {
+    while let Some(line) = marks.get(place.next) {
+        place.next += 1;
+        if is_skipped(line.part, place.sections.as_slice()) {
             continue;
         }
         let came = take_line(
             alloc,
             &file,
             tokens,
-            *mark,
-            &mut sections,
+            *line,
+            &mut place.sections,
             table,
             base,
             made,
         )?;
-        if let Some(found) = reach(alloc, config, view, made, entry, came.aim)? {
-            let opened = shelf.open(alloc, &found)?;
-            let next = Entry {
-                number: found.number,
-                depth: entry.depth + 1,
-                path: &found.path,
-                text: found.text.bytes(),
-                opened: &opened,
-            };
-            read(alloc, config, view, table, base, made, shelf, &next)?;
+        match came.aim {
+            Aim::Nothing => {}
+            Aim::Once => mark(made, source)?,
+            Aim::Header(target) => return Ok(Some(target)),
         }
     }
-    Ok(())
+    Ok(None)
 }
 
 /// Goes over a line and passes it, and answers what it comes to.

@@ -26,10 +26,12 @@ mod start;
 mod stray;
 mod token;
 mod unit;
+mod work;
 
-pub use done::{PpAnswer, PpDone};
+pub use done::{PpAnswer, PpDone, PpNeed, PpStep};
 pub use laws::{
     first_needed, groups_change_nothing, one_branch, one_preprocessing, resumed, some_preprocessing,
 };
 pub use start::PpState;
 pub use unit::preprocess;
+pub use work::PpWork;

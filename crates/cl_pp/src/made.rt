@@ -1,9 +1,12 @@
 //! What is known while files are gone over.
 
 use crate::done::PpDone;
+use crate::section::Section;
 use cl_base::{Fault, Lexed, LineTable, List, Name, Path, Text};
 use cl_cond::Mark;
+use std::alloc::Global;
 use std::collections::BTreeMap;
+use std::sync::Arc;
 
 /// A file: its number, its path, its lines, and the faults of lexing by the bytes at which they begin.
 #[derive(Clone, Copy)]
@@ -14,15 +17,30 @@ pub(crate) struct File<'a> {
     pub(crate) told: &'a BTreeMap<u32, Fault>,
 }
 
-/// A file that is to be gone over: its number, how many include lines lead to it, its path, its text, and what the text's
-/// tokens and lines are.
-#[derive(Clone, Copy)]
-pub(crate) struct Entry<'a> {
+/// A file that is gone over: its number, how many include lines lead to it, its path, its text, and what the text's tokens
+/// and lines are.
+#[derive(Drop)]
+pub(crate) struct Source {
     pub(crate) number: u32,
     pub(crate) depth: u32,
-    pub(crate) path: &'a Path,
-    pub(crate) text: &'a [u8],
-    pub(crate) opened: &'a Opened,
+    pub(crate) path: Path,
+    pub(crate) text: Text,
+    pub(crate) opened: Arc<Opened, Global>,
+}
+
+/// A place between the lines of a file: the number of the line that comes next, and the sections that are open, the
+/// innermost last.
+#[derive(Drop)]
+pub(crate) struct Place {
+    pub(crate) next: usize,
+    pub(crate) sections: List<Section>,
+}
+
+/// A file that is open: what it is, and the place up to which it was gone over.
+#[derive(Drop)]
+pub(crate) struct Frame {
+    pub(crate) source: Source,
+    pub(crate) place: Place,
 }
 
 /// A header that was found and is to be entered.

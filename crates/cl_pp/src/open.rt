@@ -5,7 +5,7 @@ ghost use Rattle.cl_pp.specs.Lines.{spread_fault};
 ghost use Rattle.cl_pp.specs.Preprocessing.{open_comments};
 ghost use Rattle.cl_pp.specs.code.Reaching.{IsLaid, IsOpened};
 
-use crate::made::{Entry, Made, Opened};
+use crate::made::{Made, Opened, Source};
 use crate::run::runs;
 use crate::stray::told;
 use crate::token::diag;
@@ -33,18 +33,18 @@ pub(crate) fn open(alloc: Global, text: &[u8]) -> Mem<Opened>
 }
 
 /// Adds the faults that stand before the first line of a file.
-pub(crate) fn begin(made: &mut Made, entry: &Entry) -> Mem<()>
-    requires { IsLaid entry.now.text.now entry.now.opened.now }
-    ensures done { OnOk result (IsOpened entry.now.number entry.now.text.now made.old.done entry.now.opened.now made.new.done) }
+pub(crate) fn begin(made: &mut Made, source: &Source) -> Mem<()>
+    requires { IsLaid source.now.text source.now.opened.value }
+    ensures done { OnOk result (IsOpened source.now.number source.now.text made.old.done source.now.opened.value made.new.done) }
     ensures events { OnOk result (made.new.done.events ≡ made.old.done.events) }
     ensures deps { OnOk result (made.new.done.deps ≡ made.old.done.deps) }
     ensures looked { OnOk result (made.new.done.looked ≡ made.old.done.looked) }
     ensures seen { OnOk result (made.new.seen ≡ made.old.seen) }
 {
-    let opened = entry.opened;
+    let opened = &source.opened;
     first_faults(
         &mut made.done.faults,
-        entry.number,
+        source.number,
         opened.lexed.faults.as_slice(),
         opened.faults.as_slice(),
     )?;

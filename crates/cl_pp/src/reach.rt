@@ -10,9 +10,9 @@ ghost use Rattle.cl_pp.specs.Standing.{is_among, is_file, is_stopped, is_unknown
 ghost use Rattle.cl_pp.specs.code.Keeping.{Sees};
 ghost use Rattle.cl_pp.specs.code.Reaching.{Arrives, IsIn, Looks, Reaches};
 
-use crate::aim::{Aim, Target};
+use crate::aim::Target;
 use crate::done::PpDone;
-use crate::made::{Entry, Found, Made};
+use crate::made::{Found, Made, Source};
 use cl_base::{Config, Diag, Duplicate, Known, List, Mem, Memory, Path, Text};
 use cl_headers::{Dep, HeaderView, Resolved, find_header};
 use cl_paths::folder_of;
@@ -32,10 +32,10 @@ fn is_unknown(known: &Known) -> bool
 }
 
 /// The header that was asked for last, if nothing is known of it.
-pub(crate) fn wanted(alloc: Global, done: &PpDone) -> Mem<Option<Path>>
-    ensures { IfOk result (λ path. path ≡ wanted done.now.deps) }
+pub(crate) fn wanted(alloc: Global, deps: &[Dep]) -> Mem<Option<Path>>
+    ensures { IfOk result (λ path. path ≡ wanted deps.now) }
 {
-    let Some(dep) = done.deps.as_slice().last() else {
+    let Some(dep) = deps.last() else {
         return Ok(None);
     };
     if is_unknown(&dep.known) {
@@ -123,53 +123,44 @@ fn header_fault(faults: &mut List<Diag>, number: u8, target: &Target) -> Mem<()>
     })
 }
 
-/// The header that is to be entered, if one is, where a line aims at this.
+/// The header that is to be entered, if one is, where a line names this one.
 pub(crate) fn reach<V: HeaderView>(
     alloc: Global,
     config: &Config,
     view: &mut V,
     made: &mut Made,
-    entry: &Entry,
-    aim: Aim,
+    source: &Source,
+    target: &Target,
 ) -> Mem<Option<Found>>
     requires { Sees made.now }
-    ensures done { (w : World) → IsIn entry.now config.now (V.known view.old) w → IfOk result (λ found. Reaches w aim made.old.done made.new.done found) }
-    ensures deeper { IfOk result (λ found. OnSome found (entry.now.depth < 200)) }
+    ensures done { (w : World) → IsIn source.now config.now (V.known view.old) w → IfOk result (λ found. Reaches w target.now made.old.done made.new.done found) }
+    ensures deeper { IfOk result (λ found. OnSome found (source.now.depth < 200)) }
     ensures known { IfOk result (λ found. IfSome found (λ f. V.known view.old f.path ≡ state.Found f.text)) }
     ensures fixed { V.known view.new ≡ V.known view.old }
     ensures noted { OnOk result (IsNoted (V.known view.old) made.old.done.deps made.new.done.deps (V.asked view.old) (V.asked view.new)) }
     ensures events { OnOk result (made.new.done.events ≡ made.old.done.events) }
     ensures sees { OnOk result (Sees made.new) }
 {
-    match aim {
-        Aim::Nothing => Ok(None),
-        Aim::Once => {
-            mark(made, entry)?;
-            Ok(None)
-        }
-        Aim::Header(target) => {
-            if entry.depth >= MOST_DEPTH {
-                header_fault(&mut made.done.faults, 10, &target)?;
-                return Ok(None);
-            }
-            let found = look(alloc, config, view, made, entry, &target)?;
-            Ok(found)
-        }
+    if source.depth >= MOST_DEPTH {
+        header_fault(&mut made.done.faults, 10, target)?;
+        return Ok(None);
     }
+    let found = look(alloc, config, view, made, source, target)?;
+    Ok(found)
 }
 
 /// The file is entered once only, unless it is the document.
-fn mark(made: &mut Made, entry: &Entry) -> Mem<()>
+pub(crate) fn mark(made: &mut Made, source: &Source) -> Mem<()>
     requires { Sees made.now }
-    ensures done { (w : World) → w.depth ≡ entry.now.depth → w.file ≡ entry.now.number → OnOk result (made.new.done ≡ marked w made.old.done) }
+    ensures done { (w : World) → w.depth ≡ source.now.depth → w.file ≡ source.now.number → OnOk result (made.new.done ≡ marked w made.old.done) }
     ensures deps { OnOk result (made.new.done.deps ≡ made.old.done.deps) }
     ensures events { OnOk result (made.new.done.events ≡ made.old.done.events) }
     ensures sees { OnOk result (Sees made.new) }
 {
-    if entry.depth == 0 {
+    if source.depth == 0 {
         Ok(())
     } else {
-        add_once(&mut made.done.once, entry.number)
+        add_once(&mut made.done.once, source.number)
     }
 }
 
@@ -179,18 +170,18 @@ fn look<V: HeaderView>(
     config: &Config,
     view: &mut V,
     made: &mut Made,
-    entry: &Entry,
+    source: &Source,
     target: &Target,
 ) -> Mem<Option<Found>>
     requires { Sees made.now }
-    ensures done { (w : World) → IsIn entry.now config.now (V.known view.old) w → IfOk result (λ found. Looks w target.now made.old.done made.new.done found) }
+    ensures done { (w : World) → IsIn source.now config.now (V.known view.old) w → IfOk result (λ found. Looks w target.now made.old.done made.new.done found) }
     ensures known { IfOk result (λ found. IfSome found (λ f. V.known view.old f.path ≡ state.Found f.text)) }
     ensures fixed { V.known view.new ≡ V.known view.old }
     ensures noted { OnOk result (IsNoted (V.known view.old) made.old.done.deps made.new.done.deps (V.asked view.old) (V.asked view.new)) }
     ensures events { OnOk result (made.new.done.events ≡ made.old.done.events) }
     ensures sees { OnOk result (Sees made.new) }
 {
-    let folder = folder_of(alloc, entry.path)?;
+    let folder = folder_of(alloc, &source.path)?;
     let resolved = find_header(
         alloc,
         &folder,

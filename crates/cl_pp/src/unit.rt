@@ -1,24 +1,16 @@
 //! Preprocesses a text.
 
 ghost use Rattle.std.specs.Prelude.{◌≡◌, length, IfOk};
-ghost use Rattle.std.specs.Option.{option_map};
 ghost use Rattle.cl_pp.specs.Before.{Preprocessed, before_over};
 ghost use Rattle.cl_pp.specs.Places.{IfDone, InOrder, in_document, nowhere};
-ghost use Rattle.cl_pp.specs.Preprocessing.{answer_of};
-ghost use Rattle.cl_pp.specs.Standing.{wanted};
 
-use crate::done::{PpAnswer, PpDone};
-use crate::file::read;
-use crate::made::{Entry, Made};
-use crate::open::open;
-use crate::reach::wanted;
-use crate::shelf::Shelf;
+use crate::done::{PpAnswer, PpStep};
 use crate::start::PpState;
-use cl_base::{Config, List, Mem, Path};
+use crate::work::PpWork;
+use cl_base::{Config, Mem, Path, Text};
 use cl_headers::HeaderView;
 use cl_macro::MacroBase;
 use std::alloc::Global;
-use std::collections::BTreeMap;
 
 /// What becomes of a text that begins where the state says, over the macros of a base that the state doesn't change (N1570
 /// 5.1.1.2 phases 1 to 4, 6.10): the tokens of its active
@@ -47,7 +39,7 @@ use std::collections::BTreeMap;
 ///   with at most one plain string behind it; at the first token that doesn't fit, or the line's last one.
 ///
 /// Nothing is looked for in a group that is skipped but where its sections begin and end. A file of more than
-/// 268,435,456 bytes is want of memory.
+/// 268,435,456 bytes is want of memory. The text is copied once; `PpWork` shares it, and goes on later where it needs a header.
 pub fn preprocess<B: MacroBase, V: HeaderView>(
     alloc: Global,
     start: PpState,
@@ -62,43 +54,10 @@ pub fn preprocess<B: MacroBase, V: HeaderView>(
     ensures order { IfOk result (IfDone (λ done. InOrder nowhere (length main.now) (in_document done.tokens))) }
     ensures fixed { V.known view.new ≡ V.known view.old }
 {
-    let mut table = start.macros;
-    let mut made = Made {
-        done: PpDone {
-            tokens: List::new(alloc),
-            events: List::new(alloc),
-            files: start.files,
-            once: start.once,
-            deps: List::new(alloc),
-            uses: List::new(alloc),
-            looked: List::new(alloc),
-            faults: List::new(alloc),
-        },
-        seen: BTreeMap::new(alloc),
-    };
-    let opened = open(alloc, main)?;
-    let mut shelf = Shelf::new(alloc);
-    let entry = Entry {
-        number: 0,
-        depth: 0,
-        path,
-        text: main,
-        opened: &opened,
-    };
-    read(
-        alloc, config, view, &mut table, base, &mut made, &mut shelf, &entry,
-    )?;
-    let answer = answer_of(alloc, made.done)?;
-    Ok(answer)
-}
-
-/// What becomes of a text where this was made.
-fn answer_of(alloc: Global, done: PpDone) -> Mem<PpAnswer>
-    ensures { IfOk result (λ answer. answer ≡ answer_of done) }
-{
-    let needed = wanted(alloc, &done)?;
-    match needed {
-        Some(path) => Ok(PpAnswer::Need(path)),
-        None => Ok(PpAnswer::Done(done)),
+    let main = Text::new(alloc, main)?;
+    let work = PpWork::new(alloc, start, path, &main)?;
+    match work.go_on(alloc, base, config, view)? {
+        PpStep::Done(done) => Ok(PpAnswer::Done(done)),
+        PpStep::Need(need) => Ok(PpAnswer::Need(need.path)),
     }
 }

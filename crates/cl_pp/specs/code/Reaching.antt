@@ -1,5 +1,5 @@
 -- How the code enters files.
-use Rattle.std.specs.Prelude.{◌≡◌, ℕ, List, Option, Some, None, length}
+use Rattle.std.specs.Prelude.{◌≡◌, ◌<◌, ℕ, List, Option, Some, None, length}
 use Rattle.std.specs.Ordering.{nat_cmp}
 use Rattle.std.specs.BTreeMap.{get}
 use Rattle.cl_base.specs.Lines.{IsTableOf}
@@ -11,24 +11,24 @@ use Rattle.cl_headers.specs.declared.resolving.Resolved.{Resolved}
 use Rattle.cl_lex.specs.Lexing.{Lexes}
 use Rattle.cl_lex.specs.Order.{AreInOrder}
 use Rattle.cl_macro.specs.Rules.{TellsTokens}
-use Rattle.cl_pp.specs.declared.aim.Aim.{Aim}
+use Rattle.cl_pp.specs.declared.aim.Aim.TheVariants as aim
 use Rattle.cl_pp.specs.declared.aim.Target.{Target}
 use Rattle.cl_pp.specs.declared.done.PpDone.{PpDone}
-use Rattle.cl_pp.specs.declared.made.Entry.{Entry}
+use Rattle.cl_pp.specs.declared.made.Source.{Source}
 use Rattle.cl_pp.specs.declared.made.Found.{Found}
 use Rattle.cl_pp.specs.declared.made.Opened.{Opened}
 use Rattle.cl_pp.specs.Lines.{told}
 use Rattle.cl_pp.specs.Places.{MarksLie}
-use Rattle.cl_pp.specs.Preprocessing.{Does, Enters, Finds, Reads, Stays, World, arrived, begin, below}
+use Rattle.cl_pp.specs.Preprocessing.{Does, Enters, Finds, Stays, World, arrived, begin}
 use Rattle.cl_pp.specs.Runs.{runs}
 use Rattle.cl_pp.specs.Standing.{with_asked_paths}
 
 -- the file is the one that this speaks of
-pub record IsIn (entry : Entry) (config : Settings) (known : List ℕ → Known) (w : World) : Type 0 where
-  pub file : entry.number ≡ w.file
-  pub depth : entry.depth ≡ w.depth
-  pub path : entry.path.now ≡ w.path
-  pub text : entry.text.now ≡ w.text
+pub record IsIn (source : Source) (config : Settings) (known : List ℕ → Known) (w : World) : Type 0 where
+  pub file : source.number ≡ w.file
+  pub depth : source.depth ≡ w.depth
+  pub path : source.path ≡ w.path
+  pub text : source.text ≡ w.text
   pub known_is : known ≡ w.known
   pub folders : config.includes ≡ w.folders
   pub tells : TellsTokens w.one_token
@@ -68,7 +68,7 @@ pub record Looks (w : World) (target : Target) (old new : PpDone) (found : Optio
   pub finds : Finds w target asked resolved
   pub arrives : Arrives target resolved (with_asked_paths w.known asked old) new found
 
--- what a line aims at is done, or is done once this file is gone over
-abbrev pub Reaches : World → Aim → PpDone → PpDone → Option Found → Type 0
-Reaches w aim old new None = Does w aim old new
-Reaches w aim old new (Some f) = (done : PpDone) → Reads (below w f.number f.path f.text) new done → Does w aim old done
+-- the header that a line names is done, or is done once this file is gone over
+abbrev pub Reaches : World → Target → PpDone → PpDone → Option Found → Type 0
+Reaches w target old new None = Does w (aim.Header target) old new
+Reaches w target old new (Some f) = (w.depth < 200) × Looks w target old new (Some f)

@@ -1,9 +1,9 @@
 -- How the code follows the sections that are open: their answers, the innermost first.
-use Rattle.std.specs.Prelude.{Bool, true, false, not, ◌&&◌, List, [], ◌∷◌}
+use Rattle.std.specs.Prelude.{◌≡◌, ℕ, Bool, true, false, not, ◌&&◌, List, [], ◌∷◌, slice_index_or}
 use Rattle.cl_cond.specs.declared.mark.Part.{Part}
 use Rattle.cl_cond.specs.declared.mark.Part.TheVariants.{Line, Branch, End}
 use Rattle.cl_cond.specs.Sections.{opens}
-use Rattle.cl_pp.specs.Activity.{Question, Active, Free, Outer}
+use Rattle.cl_pp.specs.Activity.{Passed, Question, Active, Free, Outer, says}
 use Rattle.cl_pp.specs.declared.section.Section.{Section}
 
 abbrev pub tell : Section → Question → Bool
@@ -41,3 +41,13 @@ abbrev pub stacked : Part → Bool → List Section → List Section
 stacked Line held stack = stack
 stacked End held stack = below stack
 stacked (Branch c) held stack = under (opens c) held stack
+
+abbrev pub nth : List Section → ℕ → Section
+nth stack n = slice_index_or stack n all_active
+
+-- the answers are those of the sections
+abbrev pub Tells : (Question → ℕ → Bool) → List Section → Type 0
+Tells f stack = (q : Question) (n : ℕ) → f q n ≡ tell (nth stack n) q
+
+abbrev pub Stand : List Passed → List Section → Type 0
+Stand past stack = Tells (λ q n. says q n past) stack

@@ -5,7 +5,7 @@ use Rattle.cl_pp.proofs.open.begin.Goals as goal
 
 pub returns-clause-done : goal.returns-clause-done
 returns-clause-done c =
-    let file = c.args.entry.now.number in
+    let file = c.args.source.now.number in
     let old = c.args.made.now.done in
     let laid = c.requires in
     record {
