@@ -25,9 +25,9 @@ use Rattle.cl_pp.specs.Standing.{is_stopped, macro_at, number_at}
 use Rattle.cl_pp.specs.Taking.{Comes}
 use Rattle.cl_pp.specs.code.Going.{ComesBy}
 use Rattle.cl_pp.specs.code.Keeping.{Keeps, Suits, lookup, number_of}
-use Rattle.cl_pp.specs.code.Stacks.{is_skipped, stacked, tell, top_of}
+use Rattle.cl_pp.specs.code.Stacks.{Stand, is_skipped, stacked, tell, top_of}
 use Rattle.cl_pp.proofs.Shapes.{stop_at}
-use Rattle.cl_pp.proofs.Standing.{Stand, stand_on, stand_start, top_answers}
+use Rattle.cl_pp.proofs.Standing.{stand_on, top_answers}
 use Rattle.cl_pp.proofs.Straying.{next_of}
 
 abbrev pick : Bool → Type 0
@@ -41,14 +41,14 @@ not_active : (b : Bool) → not b ≡ true → b ≡ false
 not_active true h = absurd (apart h)
 not_active false h = refl
 
--- so many lines are passed: whatever comes of the others comes of all
-pub record Gone (w : World) (tokens : List Token) (marks : List Mark) (first now : PpDone) (sections : List Section) (i : ℕ) : Type 0 where
+-- so many more lines are passed: whatever comes of the others comes of all
+pub record Gone (w : World) (tokens : List Token) (marks : List Mark) (begun : List Passed) (first now : PpDone) (sections : List Section) (from i : ℕ) : Type 0 where
   past : List Passed
   stands : Stand past sections
-  goes : (t : State) → Goes w tokens (drop i marks) (record { past = past; done = now }) t → Goes w tokens marks (record { past = []; done = first }) t
+  goes : (t : State) → Goes w tokens (drop i marks) (record { past = past; done = now }) t → Goes w tokens (drop from marks) (record { past = begun; done = first }) t
 
-pub gone_first : (w : World) (tokens : List Token) (marks : List Mark) (first : PpDone) (sections : List Section) → sections ≡ [] → Gone w tokens marks first first (reverse sections) 0
-gone_first w tokens marks first sections e = record { past = []; stands = stand_start sections e; goes = λ t g. g }
+pub gone_first : (w : World) (tokens : List Token) (marks : List Mark) (begun : List Passed) (first : PpDone) (sections : List Section) (from : ℕ) → Stand begun sections → Gone w tokens marks begun first first sections from from
+gone_first w tokens marks begun first sections from h = record { past = begun; stands = h; goes = λ t g. g }
 
 -- what is kept tells what stands
 pub as_line : {ms : List ℕ → Option Macro} {ns : List ℕ → Option MacroNo} (file : File) (w : World) (macros : MacroTable) (tokens : List Token) (mark : Mark) (past : List Passed) (before : List Section) (old new : PpDone) (held : Bool) (aim : Aim)
@@ -65,14 +65,14 @@ as_line {ms} {ns} file w macros tokens mark past before old new held aim s k sta
     (subst (λ (f : List ℕ → Option MacroNo). Comes file.number (rules_in w (lookup ms macros)) f (line_of tokens mark) (act file.number (get nat_cmp file.told.now) (lookup ms macros) mark.part (λ q. says q 0 past) (line_of tokens mark) old) held aim new) n
     (subst (λ (f : Question → Bool). Comes file.number (rules_in w (lookup ms macros)) (number_of ns macros) (line_of tokens mark) (act file.number (get nat_cmp file.told.now) (lookup ms macros) mark.part f (line_of tokens mark) old) held aim new) a h))))
 
-pub gone_on : {ms : List ℕ → Option Macro} {ns : List ℕ → Option MacroNo} (file : File) (w : World) (macros : MacroTable) (tokens : List Token) (marks : List Mark) (i : ℕ) (d mark : Mark) (first old mid new : PpDone) (before after : List Section) (held : Bool) (aim : Aim)
+pub gone_on : {ms : List ℕ → Option Macro} {ns : List ℕ → Option MacroNo} (file : File) (w : World) (macros : MacroTable) (tokens : List Token) (marks : List Mark) (from i : ℕ) (d mark : Mark) (begun : List Passed) (first old mid new : PpDone) (before after : List Section) (held : Bool) (aim : Aim)
     → i < length marks → mark ≡ get_or marks i d → is_stopped old ≡ false
     → Suits file w → Keeps ms ns w.start macros old → ComesBy ms ns file w macros (tell (top_of before)) mark (line_of tokens mark) old held aim mid → Does w aim mid new
     → after ≡ stacked mark.part held before
-    → Gone w tokens marks first old before i → Gone w tokens marks first new after (i + 1)
-gone_on file w macros tokens marks i d mark first old mid new before after held aim l e f s k h x n g =
+    → Gone w tokens marks begun first old before from i → Gone w tokens marks begun first new after from (i + 1)
+gone_on file w macros tokens marks from i d mark begun first old mid new before after held aim l e f s k h x n g =
     let next : drop i marks ≡ mark ∷ drop (i + 1) marks = next_of marks i d mark l e in
-    let goes = subst (λ (ms : List Mark). (t : State) → Goes w tokens ms (record { past = g.past; done = old }) t → Goes w tokens marks (record { past = []; done = first }) t) next g.goes in
+    let goes = subst (λ (ms : List Mark). (t : State) → Goes w tokens ms (record { past = g.past; done = old }) t → Goes w tokens (drop from marks) (record { past = begun; done = first }) t) next g.goes in
     let passed : Passed = record { part = mark.part; held = held } in
     record {
       past = passed ∷ g.past;
@@ -97,26 +97,20 @@ skipped_stack Line top stack h = refl
 skipped_stack End top stack h = absurd (apart h)
 skipped_stack (Branch c) top stack h = absurd (apart h)
 
-pub gone_past : {ms : List ℕ → Option Macro} {ns : List ℕ → Option MacroNo} (file : File) (w : World) (macros : MacroTable) (tokens : List Token) (marks : List Mark) (i : ℕ) (d mark : Mark) (first old : PpDone) (sections : List Section)
+pub gone_past : {ms : List ℕ → Option Macro} {ns : List ℕ → Option MacroNo} (file : File) (w : World) (macros : MacroTable) (tokens : List Token) (marks : List Mark) (from i : ℕ) (d mark : Mark) (begun : List Passed) (first old : PpDone) (sections : List Section)
     → i < length marks → mark ≡ get_or marks i d → is_stopped old ≡ false → Suits file w → Keeps ms ns w.start macros old → is_skipped mark.part (top_of sections) ≡ true
-    → Gone w tokens marks first old sections i → Gone w tokens marks first old sections (i + 1)
-gone_past {ms} {ns} file w macros tokens marks i d mark first old sections l e f s k h g =
-    gone_on file w macros tokens marks i d mark first old old old sections sections false Nothing l e f s k
+    → Gone w tokens marks begun first old sections from i → Gone w tokens marks begun first old sections from (i + 1)
+gone_past {ms} {ns} file w macros tokens marks from i d mark begun first old sections l e f s k h g =
+    gone_on file w macros tokens marks from i d mark begun first old old old sections sections false Nothing l e f s k
     (skipped_comes ms ns file w macros mark.part (line_of tokens mark) (top_of sections) old h) (nothing w old) (sym (skipped_stack mark.part (top_of sections) sections h)) g
 
--- from the first line on they are gone over
-pub record Over (w : World) (tokens : List Token) (marks : List Mark) (old new : PpDone) : Type 0 where
-  pub last : State
-  pub goes : Goes w tokens marks (record { past = []; done = old }) last
-  pub is : new ≡ last.done
-
-pub gone_end : (w : World) (tokens : List Token) (marks : List Mark) (i : ℕ) (first now : PpDone) (sections : List Section) → length marks ≤ i → Gone w tokens marks first now sections i → Over w tokens marks first now
-gone_end w tokens marks i first now sections l g =
-    let none : drop i marks ≡ [] = drop_all i marks l in
-    let goes = subst (λ (ms : List Mark). (t : State) → Goes w tokens ms (record { past = g.past; done = now }) t → Goes w tokens marks (record { past = []; done = first }) t) none g.goes in
-    record { last = record { past = g.past; done = now }; goes = goes _ (end w tokens _); is = refl }
-
-pub gone_stop : (w : World) (tokens : List Token) (marks : List Mark) (i : ℕ) (first now : PpDone) (sections : List Section) → is_stopped now ≡ true
-    → Gone w tokens marks first now sections i → Over w tokens marks first now
-gone_stop w tokens marks i first now sections f g =
-    record { last = record { past = g.past; done = now }; goes = g.goes (record { past = g.past; done = now }) (stop_at w tokens (drop i marks) (record { past = g.past; done = now }) f); is = refl }
+-- the next line names a header
+pub gone_to : {ms : List ℕ → Option Macro} {ns : List ℕ → Option MacroNo} (file : File) (w : World) (macros : MacroTable) (tokens : List Token) (marks : List Mark) (from i : ℕ) (d mark : Mark) (begun : List Passed) (first old mid new : PpDone) (before : List Section) (held : Bool) (aim : Aim) (t : State)
+    → i < length marks → mark ≡ get_or marks i d → is_stopped old ≡ false
+    → Suits file w → Keeps ms ns w.start macros old → ComesBy ms ns file w macros (tell (top_of before)) mark (line_of tokens mark) old held aim mid → Does w aim mid new
+    → (g : Gone w tokens marks begun first old before from i) → Goes w tokens (drop (i + 1) marks) (record { past = record { part = mark.part; held = held } ∷ g.past; done = new }) t
+    → Goes w tokens (drop from marks) (record { past = begun; done = first }) t
+gone_to file w macros tokens marks from i d mark begun first old mid new before held aim t l e f s k h x g later =
+    let next : drop i marks ≡ mark ∷ drop (i + 1) marks = next_of marks i d mark l e in
+    let goes = subst (λ (ms : List Mark). (t : State) → Goes w tokens ms (record { past = g.past; done = old }) t → Goes w tokens (drop from marks) (record { past = begun; done = first }) t) next g.goes in
+    goes t (line w tokens mark (drop (i + 1) marks) (record { past = g.past; done = old }) held aim mid new t f (as_line file w macros tokens mark g.past before old mid held aim s k g.stands h) x later)

@@ -19,7 +19,6 @@ use Rattle.cl_base.specs.declared.macros.Macro.{Macro}
 use Rattle.cl_macro.proofs.Teller.{some_teller}
 use Rattle.cl_pp.specs.declared.aim.Aim.{Aim}
 use Rattle.cl_pp.specs.declared.done.PpDone.{PpDone}
-use Rattle.cl_pp.specs.declared.made.Entry.{Entry}
 use Rattle.cl_pp.specs.declared.made.File.{File}
 use Rattle.cl_pp.specs.declared.made.Found.{Found}
 use Rattle.cl_pp.specs.declared.made.Opened.{Opened}
@@ -32,7 +31,6 @@ use Rattle.cl_pp.specs.code.Going.{ComesBy}
 use Rattle.cl_pp.specs.code.Keeping.{Keeps, Suits, lookup, number_of}
 use Rattle.cl_pp.specs.code.Reaching.{IsIn, IsOpened, Reaches}
 use Rattle.cl_pp.proofs.Adding.{comes_deps}
-use Rattle.cl_pp.proofs.Going.{Over}
 use Rattle.cl_pp.proofs.Withins.{within_order}
 use Rattle.std.specs.Prelude.{Bool}
 
@@ -57,30 +55,8 @@ noted_then known other a b c d x y z k e m n = record {
   are = n.are ∙ (λ i. (e ∙ m.are) i ++ map (dep_of (k i)) n.asked) ∙ append_assoc a (map (dep_of known) m.asked) (map (dep_of known) n.asked) ∙ ap (λ (ds : List Dep). a ++ ds) (sym (map_both known m.asked n.asked));
 }
 
-pub in_known : (entry : Entry) (config : Settings) (known other : List ℕ → Known) (w : World) → other ≡ known → IsIn entry config known w → IsIn entry config other w
-in_known entry config known other w e i = record { file = i.file; depth = i.depth; path = i.path; text = i.text; known_is = e ∙ i.known_is; folders = i.folders; tells = i.tells }
-
-pub in_lexed : (entry : Entry) (config : Settings) (known : List ℕ → Known) (w : World) (opened : Opened) → IsIn entry config known w → IsIn entry config known (lexed_by w opened.lexed.faults)
-in_lexed entry config known w opened i = record { file = i.file; depth = i.depth; path = i.path; text = i.text; known_is = i.known_is; folders = i.folders; tells = i.tells }
-
--- the file that is entered
-pub in_below : (entry next : Entry) (config : Settings) (known other : List ℕ → Known) (w : World) (f : Found) → IsIn entry config known w → other ≡ known
-    → next.number ≡ f.number → next.depth ≡ entry.depth + 1 → next.path.now ≡ f.path → next.text.now ≡ f.text → IsIn next config other (below w f.number f.path f.text)
-in_below entry next config known other w f i k n d p t =
-    record { file = n; depth = d ∙ ap (λ (x : ℕ). x + 1) i.depth; path = p; text = t; known_is = k ∙ i.known_is; folders = i.folders; tells = i.tells }
-
 pub within_tokens : (text other : List ℕ) (lexed tokens : List Token) → tokens ≡ lexed → text ≡ other → AreInOrder 0 (length text) lexed → Within (length other) tokens
 within_tokens text other lexed tokens e t o = subst (λ (x : List ℕ). Within (length x) tokens) t (subst (λ (ts : List Token). Within (length text) ts) (sym e) (within_order 0 (length text) lexed o))
-
-pub suits_lexed : (file : File) (entry : Entry) (config : Settings) (known : List ℕ → Known) (w : World) (opened : Opened) (old new : PpDone) → IsIn entry config known w → IsOpened entry.number entry.text.now old opened new
-    → file.number ≡ entry.number → file.path.now ≡ entry.path.now → file.lines.now ≡ opened.lines → file.told.now ≡ opened.told → Suits file (lexed_by w opened.lexed.faults)
-suits_lexed file entry config known w opened old new i o n p l t = record {
-  number = n ∙ i.file;
-  path = p ∙ i.path;
-  lines = subst (λ (x : List ℕ). IsTableOf file.lines.now x) i.text (rw l o.lines);
-  begins = λ at. ap (λ m. get nat_cmp m at) t ∙ o.begins at;
-  tells = i.tells;
-}
 
 -- a line leaves the headers that were asked for as they were
 pub line_deps : (ms : List ℕ → Option Macro) (ns : List ℕ → Option MacroNo) (file : File) (text : List ℕ) (macros : MacroTable) (answer : Question → Bool) (mark : Mark) (whole : List Token) (old new : PpDone) (held : Bool) (aim : Aim)
@@ -100,22 +76,3 @@ line_deps ms ns file text macros answer mark whole old new held aim l h =
     } in
     comes_deps file.number (rules_in w (lookup ms macros)) (number_of ns macros) whole old (get nat_cmp file.told.now) (lookup ms macros) mark.part answer held aim new
     (h w (record { number = refl; path = refl; lines = l; begins = λ at. refl; tells = teller.1 }) refl)
-
-pub reads_over : (w : World) (opened : Opened) (file : ℕ) (text : List ℕ) (old mid new : PpDone) (tokens : List Token) (marks : List Mark) → IsOpened file text old opened mid → file ≡ w.file → text ≡ w.text
-    → tokens ≡ opened.lexed.tokens → marks ≡ opened.marks → Over (lexed_by w opened.lexed.faults) tokens marks mid new → Reads w old new
-reads_over w opened file text old mid new tokens marks o f t k m g =
-    let lexed = opened.lexed in
-    let at : World = lexed_by w lexed.faults in
-    let first : mid ≡ (begin w.file lexed.faults o.groups.faults old).done = o.is ∙ ap (λ (n : ℕ). (begin n lexed.faults o.groups.faults old).done) f in
-    let goes : Goes at lexed.tokens (runs lexed.tokens o.groups.marks) (begin w.file lexed.faults o.groups.faults old) g.last =
-    subst (λ (d : PpDone). Goes at lexed.tokens (runs lexed.tokens o.groups.marks) (record { past = []; done = d }) g.last) first
-    (subst (λ (ms : List Mark). Goes at lexed.tokens ms (record { past = []; done = mid }) g.last) (m ∙ o.marks)
-    (subst (λ (ts : List Token). Goes at ts marks (record { past = []; done = mid }) g.last) k g.goes)) in
-    subst (λ (d : PpDone). Reads w old d) (sym g.is) (read w old lexed o.groups g.last (subst (λ (x : List ℕ). Lexes x lexed) t o.lexes) o.grouped goes)
-
--- nothing is entered
-pub reached_none : (w : World) (aim : Aim) (old new : PpDone) (found : Option Found) → found ≡ None → Reaches w aim old new found → Does w aim old new
-reached_none w aim old new found e h = subst (Reaches w aim old new) e h
-
-pub reached_some : (w : World) (aim : Aim) (old new done : PpDone) (found : Option Found) (f : Found) → found ≡ Some f → Reaches w aim old new found → Reads (below w f.number f.path f.text) new done → Does w aim old done
-reached_some w aim old new done found f e h r = let k : Reaches w aim old new (Some f) = subst (Reaches w aim old new) e h in k done r

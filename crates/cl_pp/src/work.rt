@@ -105,7 +105,7 @@ impl PpWork {
     {
         let mut work = self;
         match run(alloc, base, config, view, &mut work)? {
-            None => Ok(PpStep::Done(work.made.done)),
+            None => Ok(PpStep::Done(done_of(work))),
             Some(seen) => {
                 let Some(path) = wanted(alloc, seen.as_slice())? else {
                     return Err(Memory);
@@ -114,6 +114,15 @@ impl PpWork {
             }
         }
     }
+}
+
+/// What was made.
+fn done_of(work: PpWork) -> PpDone
+    ensures { result ≡ work.made.done }
+{
+    let PpWork { made, .. } = work;
+    let Made { done, .. } = made;
+    done
 }
 
 /// Opens a file: the faults that stand before its first line are told.

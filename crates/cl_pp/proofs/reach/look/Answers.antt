@@ -6,7 +6,7 @@ pub returns-clause-done : goal.returns-clause-done
 returns-clause-done g c =
     let known = g.V.HeaderView.known in
     let asked = g.V.HeaderView.asked in
-    λ w s. looks_is w c.args.entry.now c.args.config.now (known c.args.view.now) c.args.target.now c.in_ok-folder.folder c.text.result.now c.args.made.now.done c.arrive.new.made.done c.find_header.new.deps
+    λ w s. looks_is w c.args.source.now c.args.config.now (known c.args.view.now) c.args.target.now c.in_ok-folder.folder c.text.result.now c.args.made.now.done c.arrive.new.made.done c.find_header.new.deps
     (asked c.args.view.now) (asked c.find_header.new.view) c.in_ok-resolved.resolved c.in_ok-found.found s c.in_ok-folder.ensures c.text.ensures c.in_ok-resolved.ensures.ok c.in_ok-found.ensures.done
 
 pub returns-clause-known : goal.returns-clause-known
