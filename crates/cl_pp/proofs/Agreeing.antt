@@ -15,6 +15,7 @@ use Rattle.cl_pp.specs.declared.done.PpDone.{PpDone}
 use Rattle.cl_pp.specs.declared.done.PpAnswer.{PpAnswer}
 use Rattle.cl_pp.specs.Preprocessing.{Arrival, Before, Does, Enters, Goes, PreprocessesFrom, Reads, State, Stays, World, arrived, arrived_in}
 use Rattle.cl_pp.specs.Preprocessing.{deep, end, enters, line, nothing, once, read, stays, stop}
+use Rattle.cl_pp.specs.Resuming.{Agree as Agrees}
 use Rattle.cl_pp.proofs.Adding.{line_adds}
 use Rattle.cl_pp.proofs.Needing.{arrival_deps, marked_deps}
 
@@ -52,9 +53,9 @@ mutual
 
 module _ (other : List ℕ → Known) where
   abbrev pub Agree : List Dep → Type 0
-  Agree deps = AllByRecursion (λ (dep : Dep). other dep.path ≡ dep.known) deps
+  Agree deps = Agrees other deps
 
-  front_agrees : (xs ys : List Dep) → Agree (xs ++ ys) → Agree xs
+  pub front_agrees : (xs ys : List Dep) → Agree (xs ++ ys) → Agree xs
   front_agrees [] ys h = tt
   front_agrees (x ∷ xs) ys h = (h.0, front_agrees xs ys h.1)
 
@@ -62,7 +63,7 @@ module _ (other : List ℕ → Known) where
   back_agrees [] ys h = h
   back_agrees (x ∷ xs) ys h = back_agrees xs ys h.1
 
-  before_agrees : (xs ys : List Dep) → Longer xs ys → Agree ys → Agree xs
+  pub before_agrees : (xs ys : List Dep) → Longer xs ys → Agree ys → Agree xs
   before_agrees xs ys l h = front_agrees xs l.more (subst Agree l.is h)
 
   -- the same is known of these paths
@@ -89,7 +90,7 @@ module _ (other : List ℕ → Known) where
   absent_same known [] s h = tt
   absent_same known (p ∷ ps) s h = (s.0 ∙ h.0, absent_same known ps s.1 h.1)
 
-  resolves_same : (known : List ℕ → Known) (paths asked : List (List ℕ)) (found : Resolved) → Same known asked → Resolves known paths asked found → Resolves other paths asked found
+  pub resolves_same : (known : List ℕ → Known) (paths asked : List (List ℕ)) (found : Resolved) → Same known asked → Resolves known paths asked found → Resolves other paths asked found
   resolves_same known paths asked found s (decided front path rest split absent comes is) =
       let t : Same known (front ++ path ∷ []) = subst (Same known) is s in
       decided front path rest split (absent_same known front (front_same known front (path ∷ []) t) absent) (subst (λ (k : Known). ComesTo path k found) (sym (last_same known front path t)) comes) is
@@ -98,10 +99,10 @@ module _ (other : List ℕ → Known) where
   abbrev pub elsewhere : World → World
   elsewhere w = record w { known = other }
 
-  asked_same : (w : World) (old : PpDone) (asked : List (List ℕ)) (new : List Dep) → new ≡ old.deps ++ map (dep_of w.known) asked → Agree new → Same w.known asked
+  pub asked_same : (w : World) (old : PpDone) (asked : List (List ℕ)) (new : List Dep) → new ≡ old.deps ++ map (dep_of w.known) asked → Agree new → Same w.known asked
   asked_same w old asked new e h = as_same w.known asked (back_agrees old.deps (map (dep_of w.known) asked) (subst Agree e h))
 
-  arrives_same : (w : World) (target : Target) (asked : List (List ℕ)) (found : Resolved) (old : PpDone) (a : Arrival) → Same w.known asked → arrived_in w target asked found old ≡ a
+  pub arrives_same : (w : World) (target : Target) (asked : List (List ℕ)) (found : Resolved) (old : PpDone) (a : Arrival) → Same w.known asked → arrived_in w target asked found old ≡ a
       → arrived_in (elsewhere w) target asked found old ≡ a
   arrives_same w target asked found old a s e = sym (ap (λ (ds : List Dep). arrived target found (record old { deps = old.deps ++ ds })) (same_deps w.known asked s)) ∙ e
 

@@ -20,6 +20,8 @@ mod Placing
 mod Order
 mod Ordering
 mod Needing
+mod Telling
+mod Resuming
 pub mod Agreeing
 pub mod Unique
 mod Existing

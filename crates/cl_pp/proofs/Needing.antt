@@ -29,7 +29,7 @@ apart path e = subst pick (sym e) tt
 last_cons : (d e : Dep) (es : List Dep) → last_of (d ∷ (e ∷ es)) ≡ last_of (e ∷ es)
 last_cons d e es = let k : length (d ∷ (e ∷ es)) - 1 ≡ suc (length (e ∷ es) - 1) = omega arith in ap (λ (n : ℕ). slice_get (d ∷ (e ∷ es)) n) k
 
-last_more : (deps : List Dep) (dep : Dep) → last_of (deps ++ dep ∷ []) ≡ Some dep
+pub last_more : (deps : List Dep) (dep : Dep) → last_of (deps ++ dep ∷ []) ≡ Some dep
 last_more [] dep = refl
 last_more (d ∷ []) dep = last_cons d dep []
 last_more (d ∷ (e ∷ es)) dep = last_cons d e (es ++ dep ∷ []) ∙ last_more (e ∷ es) dep
@@ -41,7 +41,7 @@ one_none false path o e = e
 last_none : (d : Dep) → (if is_unknown d.known then Some d.path else None) ≡ None → wanted_by (Some d) ≡ None
 last_none d e = e
 
-none_wanted : (deps : List Dep) → first_unknown deps ≡ None → wanted deps ≡ None
+pub none_wanted : (deps : List Dep) → first_unknown deps ≡ None → wanted deps ≡ None
 none_wanted [] e = refl
 none_wanted (d ∷ []) e = e
 none_wanted (d ∷ (f ∷ fs)) e = ap wanted_by (last_cons d f fs) ∙ none_wanted (f ∷ fs) (one_none (is_unknown d.known) d.path (first_unknown (f ∷ fs)) e)
@@ -49,7 +49,7 @@ none_wanted (d ∷ (f ∷ fs)) e = ap wanted_by (last_cons d f fs) ∙ none_want
 if_wanted : (b : Bool) (path : List ℕ) → b ≡ false → (if b then Some path else None) ≡ None
 if_wanted b path e = ap (λ (x : Bool). if x then Some path else None) e
 
-not_stopped : (o : Option Dep) → stopped_by o ≡ false → wanted_by o ≡ None
+pub not_stopped : (o : Option Dep) → stopped_by o ≡ false → wanted_by o ≡ None
 not_stopped None e = refl
 not_stopped (Some d) e = if_wanted (is_unknown d.known) d.path e
 
@@ -63,15 +63,15 @@ known_by : (b : Bool) (x : Dep) (xs ys : List Dep) → is_unknown x.known ≡ b 
 known_by true x xs ys k e h = absurd (apart x.path (ap (λ (b : Bool). if b then Some x.path else first_unknown xs) (sym k) ∙ e))
 known_by false x xs ys k e h = h (one_none (is_unknown x.known) x.path (first_unknown xs) e)
 
-behind_known : (xs ys : List Dep) → first_unknown xs ≡ None → first_unknown (xs ++ ys) ≡ first_unknown ys
+pub behind_known : (xs ys : List Dep) → first_unknown xs ≡ None → first_unknown (xs ++ ys) ≡ first_unknown ys
 behind_known [] ys e = refl
 behind_known (x ∷ xs) ys e = known_by (is_unknown x.known) x xs ys refl e (λ n. behind_known xs ys n)
 
-absent_known : (known : List ℕ → Known) (paths : List (List ℕ)) → AllAbsent known paths → first_unknown (map (dep_of known) paths) ≡ None
+pub absent_known : (known : List ℕ → Known) (paths : List (List ℕ)) → AllAbsent known paths → first_unknown (map (dep_of known) paths) ≡ None
 absent_known known [] h = refl
 absent_known known (p ∷ ps) h = ap (λ (k : Known). if is_unknown k then Some p else first_unknown (map (dep_of known) ps)) h.0 ∙ absent_known known ps h.1
 
-map_more : (known : List ℕ → Known) (paths : List (List ℕ)) (path : List ℕ) → map (dep_of known) (paths ++ path ∷ []) ≡ map (dep_of known) paths ++ dep_of known path ∷ []
+pub map_more : (known : List ℕ → Known) (paths : List (List ℕ)) (path : List ℕ) → map (dep_of known) (paths ++ path ∷ []) ≡ map (dep_of known) paths ++ dep_of known path ∷ []
 map_more known [] path = refl
 map_more known (p ∷ ps) path = ap (λ (ds : List Dep). dep_of known p ∷ ds) (map_more known ps path)
 
@@ -98,7 +98,7 @@ if_arrives : (b : Bool) (number : ℕ) (path text : List ℕ) (done : PpDone) �
 if_arrives true number path text done = refl
 if_arrives false number path text done = refl
 
-arrived_deps : (target : Target) (found : Resolved) (done : PpDone) → deps_of (arrived target found done) ≡ done.deps
+pub arrived_deps : (target : Target) (found : Resolved) (done : PpDone) → deps_of (arrived target found done) ≡ done.deps
 arrived_deps target (resolved.File path text) done = if_arrives (is_once done path) (number_in done.files path) path text done
 arrived_deps target (resolved.Failed path) done = refl
 arrived_deps target (resolved.Need path) done = refl

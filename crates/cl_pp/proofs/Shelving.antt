@@ -1,5 +1,5 @@
 -- The headers that are kept.
-use Rattle.std.proofs.Common.{◌≡◌, ℕ, List, Option, Some, None, Bool, true, false, cond, if◌then◌else◌, subst, sym}
+use Rattle.std.proofs.Common.{◌≡◌, ℕ, List, ◌++◌, Option, Some, None, Bool, true, false, cond, if◌then◌else◌, subst, sym}
 use Rattle.std.specs.Prelude.{IfSome}
 use Rattle.std.specs.BTreeMap.{is_at}
 use Rattle.std.specs.Cmp.{Equal-is}
@@ -8,15 +8,18 @@ use Rattle.std.specs.Ordering.{nat_cmp}
 use Rattle.std.proofs.lemmas.Map.Lookups.{exact_bytes}
 use Rattle.cl_base.specs.declared.headers.Known.{Known}
 use Rattle.cl_base.specs.declared.headers.Known.TheVariants as state
+use Rattle.cl_headers.specs.declared.dep.Dep.{Dep}
 use Rattle.cl_headers.specs.declared.resolving.Resolved.{Resolved}
+use Rattle.cl_headers.specs.declared.resolving.Resolved.TheVariants as resolved
 use Rattle.cl_headers.specs.Resolving.{ComesTo, Resolves, decided, missing}
 use Rattle.cl_pp.specs.declared.aim.Target.{Target}
 use Rattle.cl_pp.specs.declared.done.PpDone.{PpDone}
-use Rattle.cl_pp.specs.declared.made.Found.{Found}
+use Rattle.cl_pp.specs.declared.made.Reached.{Reached}
+use Rattle.cl_pp.specs.declared.made.Reached.TheVariants as reached
 use Rattle.cl_pp.specs.declared.made.Opened.{Opened}
 use Rattle.cl_pp.specs.Preprocessing.{Arrival, Enters, Stays, arrived}
 use Rattle.cl_pp.specs.Standing.{is_once, number_in, with_file}
-use Rattle.cl_pp.specs.code.Reaching.{Arrives, IsLaid}
+use Rattle.cl_pp.specs.code.Reaching.{Arrives, IsKnown, IsLaid, Settles}
 use Rattle.cl_pp.specs.code.Shelving.{IsOfHeader}
 
 -- ---- a file that is entered is known to have its text
@@ -39,10 +42,19 @@ resolved_known : (known : List ℕ → Known) (paths asked : List (List ℕ)) (f
 resolved_known known paths asked found target done (decided front path rest split absent comes is) = arrived_known known path (known path) found target done (λ i. known path) comes
 resolved_known known paths asked found target done (missing absent is found_is) = subst (λ (r : Resolved). AreKnown known (arrived target r done)) (sym found_is) tt
 
-pub found_known : (known : List ℕ → Known) (paths asked : List (List ℕ)) (resolved : Resolved) (target : Target) (old new : PpDone) (found : Option Found) → Resolves known paths asked resolved → Arrives target resolved old new found
-    → IfSome found (λ f. known f.path ≡ state.Found f.text)
-found_known known paths asked resolved target old new None r h = tt
-found_known known paths asked resolved target old new (Some f) r h = subst (AreKnown known) h (resolved_known known paths asked resolved target old r)
+settled_known : (known : List ℕ → Known) (arrival : Arrival) (new : PpDone) (it : Reached) → AreKnown known arrival → Settles arrival new it → IsKnown known it
+settled_known known arrival new reached.Nothing k h = tt
+settled_known known arrival new (reached.Enters f) k h = subst (AreKnown known) h k
+settled_known known arrival new (reached.Needs path deps) k h = absurd h
+
+need_known : (known : List ℕ → Known) (path : List ℕ) (deps : List Dep) (it : Reached) → it ≡ reached.Needs path deps → IsKnown known it
+need_known known path deps it h = subst (IsKnown known) (sym h) tt
+
+pub found_known : (known : List ℕ → Known) (paths asked : List (List ℕ)) (found : Resolved) (target : Target) (deps : List Dep) (old new : PpDone) (it : Reached) → Resolves known paths asked found → Arrives target found deps old new it → IsKnown known it
+found_known known paths asked (resolved.File path text) target deps old new it r h = settled_known known _ new it (resolved_known known paths asked (resolved.File path text) target (record old { deps = old.deps ++ deps }) r) h
+found_known known paths asked (resolved.Failed path) target deps old new it r h = settled_known known _ new it (resolved_known known paths asked (resolved.Failed path) target (record old { deps = old.deps ++ deps }) r) h
+found_known known paths asked resolved.Missing target deps old new it r h = settled_known known _ new it (resolved_known known paths asked resolved.Missing target (record old { deps = old.deps ++ deps }) r) h
+found_known known paths asked (resolved.Need path) target deps old new it r h = need_known known path deps it h.0
 
 -- ---- what is kept
 

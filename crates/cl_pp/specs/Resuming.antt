@@ -1,6 +1,6 @@
 -- Work on a text that stops at a header and goes on later. A caller needs nothing of how the work is kept: work that waits
 -- for a text goes on to what the text comes to.
-use Rattle.std.specs.Prelude.{◌≡◌, ℕ, false, List, [], ◌∷◌, Option, Some, None, drop, reverse}
+use Rattle.std.specs.Prelude.{◌≡◌, ℕ, List, [], ◌∷◌, Option, Some, None, drop, reverse}
 use Rattle.std.specs.List.{AllByRecursion}
 use Rattle.cl_base.specs.declared.headers.Known.{Known}
 use Rattle.cl_base.specs.declared.macros.Macro.{Macro}
@@ -24,7 +24,7 @@ use Rattle.cl_pp.specs.declared.work.PpWork.{PpWork}
 use Rattle.cl_pp.specs.Activity.{Passed}
 use Rattle.cl_pp.specs.Lines.{told}
 use Rattle.cl_pp.specs.Preprocessing.{Before, Does, Goes, Reads, State, World, answer_of, before_lines, document}
-use Rattle.cl_pp.specs.Standing.{is_stopped}
+use Rattle.cl_pp.specs.Standing.{first_unknown}
 use Rattle.cl_pp.specs.code.Keeping.{Keeps, Sees}
 use Rattle.cl_pp.specs.code.Reaching.{IsLaid}
 use Rattle.cl_pp.specs.code.Shelving.{IsSound}
@@ -78,7 +78,7 @@ pub record IsWork (work : PpWork) : Type 0 where
 -- asked for, it goes on to what the text comes to
 pub record Waits (macros : List ℕ → Option Macro) (numbers : List ℕ → Option MacroNo) (before : Before) (folders : List (List ℕ)) (path text : List ℕ) (work : PpWork) : Type 0 where
   pub keeps : Keeps macros numbers before.start work.table work.made.done
-  pub going : is_stopped work.made.done ≡ false
+  pub going : first_unknown work.made.done.deps ≡ None
   pub on : (one_token : List ℕ → Option Kind) → TellsTokens one_token → (known : List ℕ → Known) → Agree known work.made.done.deps
       → Continues (document one_token before.start known folders path text) (before_lines before) work.made.done (reverse work.frames) work.target
 

@@ -4,6 +4,7 @@ use crate::done::PpDone;
 use crate::section::Section;
 use cl_base::{Fault, Lexed, LineTable, List, Name, Path, Text};
 use cl_cond::Mark;
+use cl_headers::Dep;
 use std::alloc::Global;
 use std::collections::BTreeMap;
 use std::sync::Arc;
@@ -49,6 +50,22 @@ pub(crate) struct Found {
     pub(crate) number: u32,
     pub(crate) path: Path,
     pub(crate) text: Text,
+}
+
+/// What the search for a header comes to: nothing more is to be done, a file is to be entered, or nothing is known of this
+/// path, where these headers were asked for, that one last.
+#[derive(Drop)]
+pub(crate) enum Reached {
+    Nothing,
+    Enters(Found),
+    Needs(Path, List<Dep>),
+}
+
+/// A header of which nothing is known: its path, and all headers that were asked for, in order, this one last.
+#[derive(Drop)]
+pub(crate) struct Wanted {
+    pub(crate) path: Path,
+    pub(crate) seen: List<Dep>,
 }
 
 /// A text's tokens, the faults of its sections, the lines that the tokens make, and what else lexing tells.

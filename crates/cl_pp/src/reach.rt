@@ -1,60 +1,23 @@
 //! Headers that are entered.
 
-ghost use Rattle.std.specs.Prelude.{◌≡◌, ◌<◌, ◌++◌, ◌∷◌, [], if◌then◌else◌, IfOk, OnOk, OnSome, IfSome};
-ghost use Rattle.cl_base.specs.declared.headers.Known.TheVariants as state;
+ghost use Rattle.std.specs.Prelude.{◌≡◌, ◌<◌, ◌++◌, ◌∷◌, [], None, if◌then◌else◌, IfOk, OnOk};
 ghost use Rattle.cl_headers.specs.Noting.{IsNoted};
 ghost use Rattle.cl_pp.specs.declared.aim.Target.{Target as TheTarget};
-ghost use Rattle.cl_pp.specs.Preprocessing.{World, header_fault, marked};
+ghost use Rattle.cl_pp.specs.Preprocessing.{World, arrived, header_fault, marked};
 ghost use Rattle.cl_headers.specs.declared.resolving.Resolved.TheVariants.{File};
-ghost use Rattle.cl_pp.specs.Standing.{is_among, is_file, is_stopped, is_unknown, number_in, wanted, with_path};
+ghost use Rattle.cl_pp.specs.Standing.{first_unknown, is_among, is_file, number_in, with_path};
 ghost use Rattle.cl_pp.specs.code.Keeping.{Sees};
-ghost use Rattle.cl_pp.specs.code.Reaching.{Arrives, IsIn, Looks, Reaches};
+ghost use Rattle.cl_pp.specs.code.Reaching.{Arrives, IsDeeper, IsIn, IsKnown, Looks, Reaches, Settles, TellsNeed, deps_after};
 
 use crate::aim::Target;
-use crate::done::PpDone;
-use crate::made::{Found, Made, Source};
-use cl_base::{Config, Diag, Duplicate, Known, List, Mem, Memory, Path, Text};
+use crate::made::{Found, Made, Reached, Source};
+use cl_base::{Config, Diag, Duplicate, List, Mem, Memory, Path, Text};
 use cl_headers::{Dep, HeaderView, Resolved, find_header};
 use cl_paths::folder_of;
 use std::alloc::Global;
 
 /// The most include lines that lead to a file.
 const MOST_DEPTH: u32 = 200;
-
-/// Whether nothing is known of this header.
-fn is_unknown(known: &Known) -> bool
-    ensures { result ≡ is_unknown known.now }
-{
-    match known {
-        Known::Unknown => true,
-        Known::Absent | Known::Failed | Known::Found(_) => false,
-    }
-}
-
-/// The header that was asked for last, if nothing is known of it.
-pub(crate) fn wanted(alloc: Global, deps: &[Dep]) -> Mem<Option<Path>>
-    ensures { IfOk result (λ path. path ≡ wanted deps.now) }
-{
-    let Some(dep) = deps.last() else {
-        return Ok(None);
-    };
-    if is_unknown(&dep.known) {
-        let path = dep.path.duplicate(alloc)?;
-        Ok(Some(path))
-    } else {
-        Ok(None)
-    }
-}
-
-/// Whether nothing more is done, since nothing is known of the header that was asked for last.
-pub(crate) fn is_stopped(done: &PpDone) -> bool
-    ensures { result ≡ is_stopped done.now }
-{
-    match done.deps.as_slice().last() {
-        Some(dep) => is_unknown(&dep.known),
-        None => false,
-    }
-}
 
 /// The number of a path's file: its place among the files, from 1; the next one, where it isn't among them.
 fn number_in(files: &[Path], path: &Path) -> Mem<u32>
@@ -123,7 +86,7 @@ fn header_fault(faults: &mut List<Diag>, number: u8, target: &Target) -> Mem<()>
     })
 }
 
-/// The header that is to be entered, if one is, where a line names this one.
+/// What a line comes to that names a header. Where nothing is known of one that is asked for, nothing is added.
 pub(crate) fn reach<V: HeaderView>(
     alloc: Global,
     config: &Config,
@@ -131,22 +94,23 @@ pub(crate) fn reach<V: HeaderView>(
     made: &mut Made,
     source: &Source,
     target: &Target,
-) -> Mem<Option<Found>>
+) -> Mem<Reached>
     requires { Sees made.now }
-    ensures done { (w : World) → IsIn source.now config.now (V.known view.old) w → IfOk result (λ found. Reaches w target.now made.old.done made.new.done found) }
-    ensures deeper { IfOk result (λ found. OnSome found (source.now.depth < 200)) }
-    ensures known { IfOk result (λ found. IfSome found (λ f. V.known view.old f.path ≡ state.Found f.text)) }
+    ensures done { (w : World) → IsIn source.now config.now (V.known view.old) w → IfOk result (Reaches w target.now made.old.done made.new.done) }
+    ensures deeper { IfOk result (IsDeeper source.now.depth) }
+    ensures known { IfOk result (IsKnown (V.known view.old)) }
+    ensures told { first_unknown made.old.done.deps ≡ None → IfOk result (TellsNeed made.old.done.deps made.new.done.deps) }
     ensures fixed { V.known view.new ≡ V.known view.old }
-    ensures noted { OnOk result (IsNoted (V.known view.old) made.old.done.deps made.new.done.deps (V.asked view.old) (V.asked view.new)) }
+    ensures noted { IfOk result (λ reached. IsNoted (V.known view.old) made.old.done.deps (deps_after made.new.done.deps reached) (V.asked view.old) (V.asked view.new)) }
     ensures events { OnOk result (made.new.done.events ≡ made.old.done.events) }
     ensures sees { OnOk result (Sees made.new) }
 {
     if source.depth >= MOST_DEPTH {
         header_fault(&mut made.done.faults, 10, target)?;
-        return Ok(None);
+        return Ok(Reached::Nothing);
     }
-    let found = look(alloc, config, view, made, source, target)?;
-    Ok(found)
+    let reached = look(alloc, config, view, made, source, target)?;
+    Ok(reached)
 }
 
 /// The file is entered once only, unless it is the document.
@@ -164,7 +128,7 @@ pub(crate) fn mark(made: &mut Made, source: &Source) -> Mem<()>
     }
 }
 
-/// Looks for a header, and answers what is to be entered.
+/// Looks for a header.
 fn look<V: HeaderView>(
     alloc: Global,
     config: &Config,
@@ -172,16 +136,18 @@ fn look<V: HeaderView>(
     made: &mut Made,
     source: &Source,
     target: &Target,
-) -> Mem<Option<Found>>
+) -> Mem<Reached>
     requires { Sees made.now }
-    ensures done { (w : World) → IsIn source.now config.now (V.known view.old) w → IfOk result (λ found. Looks w target.now made.old.done made.new.done found) }
-    ensures known { IfOk result (λ found. IfSome found (λ f. V.known view.old f.path ≡ state.Found f.text)) }
+    ensures done { (w : World) → IsIn source.now config.now (V.known view.old) w → IfOk result (Looks w target.now made.old.done made.new.done) }
+    ensures known { IfOk result (IsKnown (V.known view.old)) }
+    ensures told { first_unknown made.old.done.deps ≡ None → IfOk result (TellsNeed made.old.done.deps made.new.done.deps) }
     ensures fixed { V.known view.new ≡ V.known view.old }
-    ensures noted { OnOk result (IsNoted (V.known view.old) made.old.done.deps made.new.done.deps (V.asked view.old) (V.asked view.new)) }
+    ensures noted { IfOk result (λ reached. IsNoted (V.known view.old) made.old.done.deps (deps_after made.new.done.deps reached) (V.asked view.old) (V.asked view.new)) }
     ensures events { OnOk result (made.new.done.events ≡ made.old.done.events) }
     ensures sees { OnOk result (Sees made.new) }
 {
     let folder = folder_of(alloc, &source.path)?;
+    let mut asked = List::new(alloc);
     let resolved = find_header(
         alloc,
         &folder,
@@ -189,49 +155,68 @@ fn look<V: HeaderView>(
         target.angled,
         config,
         view,
-        &mut made.done.deps,
+        &mut asked,
     )?;
-    let found = arrive(alloc, made, target, resolved)?;
-    Ok(found)
+    let reached = arrive(alloc, made, target, asked, resolved)?;
+    Ok(reached)
 }
 
-/// What is to be entered, where the search comes to this.
-fn arrive(alloc: Global, made: &mut Made, target: &Target, resolved: Resolved) -> Mem<Option<Found>>
+/// Where the search comes to that asked for these headers.
+fn arrive(
+    alloc: Global,
+    made: &mut Made,
+    target: &Target,
+    asked: List<Dep>,
+    resolved: Resolved,
+) -> Mem<Reached>
     requires { Sees made.now }
-    ensures done { IfOk result (λ found. Arrives target.now resolved made.old.done made.new.done found) }
-    ensures deps { OnOk result (made.new.done.deps ≡ made.old.done.deps) }
+    ensures done { IfOk result (Arrives target.now resolved asked made.old.done made.new.done) }
     ensures events { OnOk result (made.new.done.events ≡ made.old.done.events) }
     ensures sees { OnOk result (Sees made.new) }
 {
     match resolved {
+        Resolved::Need(path) => Ok(Reached::Needs(path, asked)),
         Resolved::File(path, text) => {
-            let found = enter(alloc, made, path, text)?;
-            Ok(found)
+            add_deps(alloc, &mut made.done.deps, asked.as_slice())?;
+            let reached = enter(alloc, made, path, text)?;
+            Ok(reached)
         }
         Resolved::Failed(_) => {
+            add_deps(alloc, &mut made.done.deps, asked.as_slice())?;
             header_fault(&mut made.done.faults, 9, target)?;
-            Ok(None)
+            Ok(Reached::Nothing)
         }
-        Resolved::Need(_) => Ok(None),
         Resolved::Missing => {
+            add_deps(alloc, &mut made.done.deps, asked.as_slice())?;
             header_fault(&mut made.done.faults, 11, target)?;
-            Ok(None)
+            Ok(Reached::Nothing)
         }
     }
 }
 
+/// Adds copies of headers that were asked for. Their texts are shared.
+pub(crate) fn add_deps(alloc: Global, deps: &mut List<Dep>, asked: &[Dep]) -> Mem<()>
+    ensures { OnOk result (deps.new ≡ deps.old ++ asked.now) }
+{
+    for dep in asked {
+        let path = dep.path.duplicate(alloc)?;
+        let known = dep.known.duplicate(alloc)?;
+        deps.push(Dep { path, known })?;
+    }
+    Ok(())
+}
+
 /// The file of this path, unless it is entered once only and was entered.
-fn enter(alloc: Global, made: &mut Made, path: Path, text: Text) -> Mem<Option<Found>>
+fn enter(alloc: Global, made: &mut Made, path: Path, text: Text) -> Mem<Reached>
     requires { Sees made.now }
-    ensures done { (target : TheTarget) → IfOk result (λ found. Arrives target (File path text) made.old.done made.new.done found) }
-    ensures deps { OnOk result (made.new.done.deps ≡ made.old.done.deps) }
+    ensures done { (target : TheTarget) → IfOk result (Settles (arrived target (File path text) made.old.done) made.new.done) }
     ensures events { OnOk result (made.new.done.events ≡ made.old.done.events) }
     ensures sees { OnOk result (Sees made.new) }
 {
     let number = number_in(made.done.files.as_slice(), &path)?;
     if is_among(made.done.once.as_slice(), number) {
-        return Ok(None);
+        return Ok(Reached::Nothing);
     }
     add_file(alloc, &mut made.done.files, &path)?;
-    Ok(Some(Found { number, path, text }))
+    Ok(Reached::Enters(Found { number, path, text }))
 }

@@ -1,6 +1,6 @@
 //! Work on a text, which stops at a header of which nothing is known, and goes on later.
 
-ghost use Rattle.std.specs.Prelude.{◌≡◌, ◌+◌, ◌<◌, [], None, Some, ℕ, List as TheList, Option as TheOption, false, IfOk, OnOk};
+ghost use Rattle.std.specs.Prelude.{◌≡◌, ◌+◌, ◌<◌, ◌++◌, [], None, Some, ℕ, List as TheList, Option as TheOption, false, IfOk, OnOk};
 ghost use Rattle.cl_base.specs.declared.headers.Known.{Known};
 ghost use Rattle.cl_base.specs.declared.headers.Known.TheVariants as state;
 ghost use Rattle.cl_base.specs.declared.macros.Macro.{Macro};
@@ -16,9 +16,9 @@ ghost use Rattle.cl_pp.specs.code.Shelving.{IsSound};
 use crate::aim::Target;
 use crate::done::{PpDone, PpNeed, PpStep};
 use crate::file::lines;
-use crate::made::{Found, Frame, Made, Place, Source};
+use crate::made::{Found, Frame, Made, Place, Reached, Source, Wanted};
 use crate::open::{begin, open};
-use crate::reach::{is_stopped, reach, wanted};
+use crate::reach::{add_deps, reach};
 use crate::shelf::Shelf;
 use crate::start::PpState;
 use cl_base::{Config, Duplicate, List, Mem, Memory, Path, Text};
@@ -106,12 +106,7 @@ impl PpWork {
         let mut work = self;
         match run(alloc, base, config, view, &mut work)? {
             None => Ok(PpStep::Done(done_of(work))),
-            Some(seen) => {
-                let Some(path) = wanted(alloc, seen.as_slice())? else {
-                    return Err(Memory);
-                };
-                Ok(PpStep::Need(PpNeed { path, seen, work }))
-            }
+            Some(Wanted { path, seen }) => Ok(PpStep::Need(PpNeed { path, seen, work })),
         }
     }
 }
@@ -138,29 +133,28 @@ fn open_file(alloc: Global, work: &mut PpWork, source: Source) -> Mem<()>
     work.frames.push(Frame { source, place })
 }
 
-/// Goes on up to the first header of which nothing is known, and answers all headers that were asked for then; `None`
-/// where the text's end is reached. After 2^64 - 1 turns memory is wanting.
+/// Goes on up to the first header of which nothing is known, and answers it; `None` where the text's end is reached. After 2^64 - 1 turns memory is wanting.
 fn run<B: MacroBase, V: HeaderView>(
     alloc: Global,
     base: &B,
     config: &Config,
     view: &mut V,
     work: &mut PpWork,
-) -> Mem<Option<List<Dep>>>
+) -> Mem<Option<Wanted>>
     requires sound { IsWork work.now }
     requires agrees { Agree (V.known view.now) work.now.made.done.deps }
     ensures done { (before : Before) (path text : TheList ℕ) → Waits (B.macros base.now) (B.events base.now) before config.now.includes path text work.old
         → IfOk result (RunsTo (B.macros base.now) (B.events base.now) before (V.known view.old) config.now.includes path text work.new) }
     ensures sound { OnOk result (IsWork work.new) }
     ensures fixed { V.known view.new ≡ V.known view.old }
-    ensures noted { IfOk result (λ seen. IsNoted (V.known view.old) work.old.made.done.deps (deps_by seen work.new) (V.asked view.old) (V.asked view.new)) }
+    ensures noted { IfOk result (λ wanted. IsNoted (V.known view.old) work.old.made.done.deps (deps_by wanted work.new) (V.asked view.old) (V.asked view.new)) }
 {
     for count in 0..u64::MAX {
         let _ = count;
         match work.target.take() {
             Some(target) => {
-                if let Some(seen) = follow(alloc, config, view, work, target)? {
-                    return Ok(Some(seen));
+                if let Some(wanted) = follow(alloc, config, view, work, target)? {
+                    return Ok(Some(wanted));
                 }
             }
             None => {
@@ -204,29 +198,27 @@ fn advance<B: MacroBase>(alloc: Global, base: &B, work: &mut PpWork) -> Mem<bool
 }
 
 /// Looks for the header that a line of the innermost file names, and opens its file, if it is to be entered. Where nothing
-/// is known of one that is asked for, the work stays as it was, and all headers that were asked for are answered, that one
-/// last.
+/// is known of one that is asked for, that one is answered, and the work stays as it was.
 fn follow<V: HeaderView>(
     alloc: Global,
     config: &Config,
     view: &mut V,
     work: &mut PpWork,
     target: Target,
-) -> Mem<Option<List<Dep>>>
+) -> Mem<Option<Wanted>>
     requires sound { IsWork work.now }
     requires agrees { Agree (V.known view.now) work.now.made.done.deps }
     ensures done { (macros : TheList ℕ → TheOption Macro) (numbers : TheList ℕ → TheOption MacroNo) (before : Before) (path text : TheList ℕ) → Waits macros numbers before config.now.includes path text (with_target (Some target) work.old)
         → work.old.target ≡ None → IfOk result (Followed macros numbers before (V.known view.old) config.now.includes path text work.new) }
     ensures sound { OnOk result (IsWork work.new) }
     ensures fixed { V.known view.new ≡ V.known view.old }
-    ensures noted { IfOk result (λ seen. IsNoted (V.known view.old) work.old.made.done.deps (deps_by seen work.new) (V.asked view.old) (V.asked view.new)) }
+    ensures noted { IfOk result (λ wanted. IsNoted (V.known view.old) work.old.made.done.deps (deps_by wanted work.new) (V.asked view.old) (V.asked view.new)) }
 {
     let Some(frame) = work.frames.pop() else {
         return Ok(None);
     };
     let depth = frame.source.depth;
-    let asked = work.made.done.deps.len();
-    let found = reach(
+    let reached = reach(
         alloc,
         config,
         view,
@@ -235,17 +227,19 @@ fn follow<V: HeaderView>(
         &target,
     )?;
     work.frames.push(frame)?;
-    if is_stopped(&work.made.done) {
-        let seen = copied(alloc, work.made.done.deps.as_slice())?;
-        work.made.done.deps.truncate(asked);
-        work.target = Some(target);
-        return Ok(Some(seen));
+    match reached {
+        Reached::Nothing => Ok(None),
+        Reached::Enters(found) => {
+            let source = source_of(alloc, &mut work.shelf, found, depth)?;
+            open_file(alloc, work, source)?;
+            Ok(None)
+        }
+        Reached::Needs(path, asked) => {
+            let seen = seen_with(alloc, work.made.done.deps.as_slice(), asked.as_slice())?;
+            work.target = Some(target);
+            Ok(Some(Wanted { path, seen }))
+        }
     }
-    if let Some(found) = found {
-        let source = source_of(alloc, &mut work.shelf, found, depth)?;
-        open_file(alloc, work, source)?;
-    }
-    Ok(None)
 }
 
 /// The file of a header that was found, named in a file to which so many include lines lead.
@@ -265,16 +259,12 @@ fn source_of(alloc: Global, shelf: &mut Shelf, found: Found, depth: u32) -> Mem<
     })
 }
 
-/// A copy of what was asked for. Its texts are shared.
-fn copied(alloc: Global, deps: &[Dep]) -> Mem<List<Dep>>
-    ensures { IfOk result (λ copy. copy ≡ deps.now) }
+/// The headers that were asked for, those of the last search behind those before it.
+fn seen_with(alloc: Global, deps: &[Dep], asked: &[Dep]) -> Mem<List<Dep>>
+    ensures { IfOk result (λ seen. seen ≡ deps.now ++ asked.now) }
 {
-    let mut copy = List::new(alloc);
-    for dep in deps {
-        copy.push(Dep {
-            path: dep.path.duplicate(alloc)?,
-            known: dep.known.duplicate(alloc)?,
-        })?;
-    }
-    Ok(copy)
+    let mut seen = List::new(alloc);
+    add_deps(alloc, &mut seen, deps)?;
+    add_deps(alloc, &mut seen, asked)?;
+    Ok(seen)
 }

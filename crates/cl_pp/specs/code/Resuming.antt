@@ -12,6 +12,7 @@ use Rattle.cl_pp.specs.declared.done.PpDone.{PpDone}
 use Rattle.cl_pp.specs.declared.made.Opened.{Opened}
 use Rattle.cl_pp.specs.declared.made.Place.{Place}
 use Rattle.cl_pp.specs.declared.made.Source.{Source}
+use Rattle.cl_pp.specs.declared.made.Wanted.{Wanted}
 use Rattle.cl_pp.specs.declared.work.PpWork.{PpWork}
 use Rattle.cl_pp.specs.Activity.{Passed}
 use Rattle.cl_pp.specs.Lines.{told}
@@ -65,22 +66,23 @@ abbrev pub with_target : Option Target → PpWork → PpWork
 with_target target work = record work { target = target }
 
 -- the headers that were asked for, where work stops or not
-abbrev pub deps_by : Option (List Dep) → PpWork → List Dep
+abbrev pub deps_by : Option Wanted → PpWork → List Dep
 deps_by None work = work.made.done.deps
-deps_by (Some seen) work = seen
+deps_by (Some it) work = it.seen
 
 module _ (macros : List ℕ → Option Macro) (numbers : List ℕ → Option MacroNo) (before : Before) (known : List ℕ → Known) (folders : List (List ℕ)) (path text : List ℕ) where
-  -- a header is needed: the text comes to that, and the work waits as it was
-  pub record Stops (work : PpWork) (seen : List Dep) : Type 0 where
-    pub read : IsRead before known folders path text (record work.made.done { deps = seen })
+  -- a header is needed: the text comes to that, and the work waits
+  pub record Stops (work : PpWork) (it : Wanted) : Type 0 where
+    pub read : IsRead before known folders path text (record work.made.done { deps = it.seen })
+    pub needs : wanted it.seen ≡ Some it.path
     pub waits : Waits macros numbers before folders path text work
 
   -- a header is followed, or is needed
-  abbrev pub Followed : PpWork → Option (List Dep) → Type 0
+  abbrev pub Followed : PpWork → Option Wanted → Type 0
   Followed work None = Waits macros numbers before folders path text work
-  Followed work (Some seen) = Stops work seen
+  Followed work (Some it) = Stops work it
 
   -- the text's end is reached, or a header is needed
-  abbrev pub RunsTo : PpWork → Option (List Dep) → Type 0
+  abbrev pub RunsTo : PpWork → Option Wanted → Type 0
   RunsTo work None = IsRead before known folders path text work.made.done × (wanted work.made.done.deps ≡ None)
-  RunsTo work (Some seen) = Stops work seen
+  RunsTo work (Some it) = Stops work it

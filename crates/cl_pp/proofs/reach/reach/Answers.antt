@@ -12,4 +12,4 @@ returns-then-source-ge-MOST_DEPTH-clause-done g c =
 pub returns-clause-done : goal.returns-clause-done
 returns-clause-done g c =
     let less : c.args.source.now.depth < 200 = grind (arith, common_steps) in
-    λ w s. reaches_by w c.args.target.now c.args.made.now.done c.look.new.made.done c.in_ok-found.found (subst (λ (n : ℕ). n < 200) s.depth less) (c.in_ok-found.ensures.done w s)
+    λ w s. reaches_by w c.args.target.now c.args.made.now.done c.look.new.made.done c.in_ok-reached.reached (subst (λ (n : ℕ). n < 200) s.depth less) (c.in_ok-reached.ensures.done w s)
