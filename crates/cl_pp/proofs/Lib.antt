@@ -9,6 +9,7 @@ mod Files
 mod Adding
 mod Shapes
 mod Going
+mod Passing
 mod Events
 mod Replaces
 mod Naming
