@@ -43,9 +43,9 @@ not_active false h = refl
 
 -- so many more lines are passed: whatever comes of the others comes of all
 pub record Gone (w : World) (tokens : List Token) (marks : List Mark) (begun : List Passed) (first now : PpDone) (sections : List Section) (from i : ℕ) : Type 0 where
-  past : List Passed
-  stands : Stand past sections
-  goes : (t : State) → Goes w tokens (drop i marks) (record { past = past; done = now }) t → Goes w tokens (drop from marks) (record { past = begun; done = first }) t
+  pub past : List Passed
+  pub stands : Stand past sections
+  pub goes : (t : State) → Goes w tokens (drop i marks) (record { past = past; done = now }) t → Goes w tokens (drop from marks) (record { past = begun; done = first }) t
 
 pub gone_first : (w : World) (tokens : List Token) (marks : List Mark) (begun : List Passed) (first : PpDone) (sections : List Section) (from : ℕ) → Stand begun sections → Gone w tokens marks begun first first sections from from
 gone_first w tokens marks begun first sections from h = record { past = begun; stands = h; goes = λ t g. g }

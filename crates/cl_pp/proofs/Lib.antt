@@ -9,7 +9,6 @@ mod Files
 mod Adding
 mod Shapes
 mod Going
-mod Passing
 mod Events
 mod Replaces
 mod Naming
@@ -17,6 +16,7 @@ mod Arriving
 mod Shelving
 mod Opening
 mod Reading
+mod Passing
 mod Placing
 mod Order
 mod Ordering

@@ -21,8 +21,9 @@ use Rattle.cl_pp.specs.declared.made.Opened.{Opened}
 use Rattle.cl_pp.specs.declared.made.Place.{Place}
 use Rattle.cl_pp.specs.declared.made.Source.{Source}
 use Rattle.cl_pp.specs.declared.section.Section.{Section}
-use Rattle.cl_pp.specs.Activity.{Passed}
+use Rattle.cl_pp.specs.Activity.{Passed, Question}
 use Rattle.cl_pp.specs.Lines.{line_of, told}
+use Rattle.cl_pp.specs.Places.{Within}
 use Rattle.cl_pp.specs.Preprocessing.{Does, Goes, State, World}
 use Rattle.cl_pp.specs.Standing.{is_stopped, last_of, stopped_by}
 use Rattle.cl_pp.specs.code.Going.{ComesBy}
@@ -31,6 +32,7 @@ use Rattle.cl_pp.specs.code.Reaching.{IsLaid}
 use Rattle.cl_pp.specs.code.Resuming.{IsAt, Passes}
 use Rattle.cl_pp.specs.code.Stacks.{Stand, stacked, tell, top_of}
 use Rattle.cl_pp.proofs.Going.{Gone, gone_to}
+use Rattle.cl_pp.proofs.Reading.{line_deps, within_tokens}
 use Rattle.cl_pp.proofs.Standing.{stand_on}
 
 pub suits_laid : (file : File) (source : Source) (opened : Opened) (w : World) → IsLaid source.text opened → IsAt source w → source.opened.value ≡ opened
@@ -42,6 +44,14 @@ suits_laid file source opened w laid at e n p l t = record {
   begins = λ i. ap (λ m. get nat_cmp m i) t ∙ laid.begins i ∙ ap (λ (o : Opened). told o.lexed.faults i) (sym e) ∙ ap (λ f. f i) at.begins;
   tells = at.tells;
 }
+
+-- a line leaves the headers that were asked for as they were
+pub line_stays : (ms : List ℕ → Option Macro) (ns : List ℕ → Option MacroNo) (file : File) (text : List ℕ) (opened : Opened) (macros : MacroTable) (answer : Question → Bool) (tokens : List Token) (mark : Mark) (old new : PpDone) (held : Bool) (aim : Aim)
+    → IsLaid text opened → tokens ≡ opened.lexed.tokens → file.lines.now ≡ opened.lines
+    → ((w : World) → Suits file w → Within (length w.text) tokens → ComesBy ms ns file w macros answer mark (line_of tokens mark) old held aim new) → new.deps ≡ old.deps
+line_stays ms ns file text opened macros answer tokens mark old new held aim laid e l h =
+    line_deps ms ns file text macros answer mark (line_of tokens mark) old new held aim (rw l laid.lines)
+    (λ w s t. h w s (within_tokens text w.text opened.lexed.tokens tokens e (sym t) laid.order))
 
 -- whether work is stopped hangs on the headers that were asked for alone
 pub goes_still : (old new : PpDone) → new.deps ≡ old.deps → is_stopped old ≡ false → is_stopped new ≡ false
