@@ -1,9 +1,8 @@
 -- The lines of a file, one after the other.
-use Rattle.std.proofs.Common.{◌≡◌, ℕ, ◌+◌, ◌<◌, ◌≤◌, List, [], ◌∷◌, Option, refl, sym, subst, length, drop, get_or, Bool, true, false}
-use Rattle.std.specs.Prelude.{reverse, not, if◌then◌else◌}
+use Rattle.std.proofs.Common.{◌≡◌, ℕ, ◌+◌, ◌<◌, List, ◌∷◌, Option, refl, sym, subst, length, drop, get_or, Bool, true, false}
+use Rattle.std.specs.Prelude.{not, if◌then◌else◌}
 use Rattle.std.specs.Ordering.{nat_cmp}
 use Rattle.std.specs.BTreeMap.{get}
-use Rattle.std.proofs.lemmas.List.{drop_all}
 use Rattle.cl_base.specs.declared.macros.Macro.{Macro}
 use Rattle.cl_base.specs.declared.macros.MacroNo.{MacroNo}
 use Rattle.cl_base.specs.declared.token.Token.{Token}
@@ -20,13 +19,12 @@ use Rattle.cl_macro.specs.declared.table.MacroTable.{MacroTable}
 use Rattle.cl_pp.specs.Activity.{Passed, Question, says}
 use Rattle.cl_pp.specs.Acts.{Gives, act, at_line}
 use Rattle.cl_pp.specs.Lines.{line_of}
-use Rattle.cl_pp.specs.Preprocessing.{ComesTo, Does, Goes, State, World, end, line, nothing, rules_in}
+use Rattle.cl_pp.specs.Preprocessing.{ComesTo, Does, Goes, State, World, line, nothing, rules_in}
 use Rattle.cl_pp.specs.Standing.{is_stopped, macro_at, number_at}
 use Rattle.cl_pp.specs.Taking.{Comes}
 use Rattle.cl_pp.specs.code.Going.{ComesBy}
 use Rattle.cl_pp.specs.code.Keeping.{Keeps, Suits, lookup, number_of}
 use Rattle.cl_pp.specs.code.Stacks.{Stand, is_skipped, stacked, tell, top_of}
-use Rattle.cl_pp.proofs.Shapes.{stop_at}
 use Rattle.cl_pp.proofs.Standing.{stand_on, top_answers}
 use Rattle.cl_pp.proofs.Straying.{next_of}
 

@@ -1,5 +1,5 @@
 -- The lines of a file are gone over, up to one that names a header.
-use Rattle.std.proofs.Common.{◌≡◌, ℕ, ◌+◌, ◌<◌, ◌≤◌, List, ◌∷◌, Bool, false, Option, Some, None, sym, ap, subst, ◌∙◌, length, drop, get_or}
+use Rattle.std.proofs.Common.{◌≡◌, ℕ, ◌+◌, ◌<◌, ◌≤◌, List, ◌∷◌, Bool, true, false, Option, Some, None, sym, ap, subst, ◌∙◌, length, drop, get_or}
 use Rattle.std.specs.Prelude.{reverse}
 use Rattle.std.specs.Ordering.{nat_cmp}
 use Rattle.std.specs.BTreeMap.{get}
@@ -7,9 +7,9 @@ use Rattle.std.proofs.lemmas.List.{drop_all}
 use Rattle.cl_base.specs.Lines.{IsTableOf}
 use Rattle.cl_base.specs.declared.macros.Macro.{Macro}
 use Rattle.cl_base.specs.declared.macros.MacroNo.{MacroNo}
-use Rattle.cl_base.specs.declared.token.Fault.{Fault}
 use Rattle.cl_base.specs.declared.token.Token.{Token}
 use Rattle.cl_cond.specs.declared.mark.Mark.{Mark}
+use Rattle.cl_cond.specs.declared.mark.Part.{Part}
 use Rattle.cl_headers.specs.declared.dep.Dep.{Dep}
 use Rattle.cl_macro.specs.declared.table.MacroTable.{MacroTable}
 use Rattle.cl_pp.specs.declared.aim.Aim.{Aim}
@@ -30,7 +30,7 @@ use Rattle.cl_pp.specs.code.Going.{ComesBy}
 use Rattle.cl_pp.specs.code.Keeping.{Keeps, Suits}
 use Rattle.cl_pp.specs.code.Reaching.{IsLaid}
 use Rattle.cl_pp.specs.code.Resuming.{IsAt, Passes}
-use Rattle.cl_pp.specs.code.Stacks.{Stand, stacked, tell, top_of}
+use Rattle.cl_pp.specs.code.Stacks.{Stand, is_skipped, stacked, tell, top_of}
 use Rattle.cl_pp.proofs.Going.{Gone, gone_to}
 use Rattle.cl_pp.proofs.Reading.{line_deps, within_tokens}
 use Rattle.cl_pp.proofs.Standing.{stand_on}
@@ -52,6 +52,9 @@ pub line_stays : (ms : List ℕ → Option Macro) (ns : List ℕ → Option Macr
 line_stays ms ns file text opened macros answer tokens mark old new held aim laid e l h =
     line_deps ms ns file text macros answer mark (line_of tokens mark) old new held aim (rw l laid.lines)
     (λ w s t. h w s (within_tokens text w.text opened.lexed.tokens tokens e (sym t) laid.order))
+
+pub skipped_by : (part : Part) (top view : List Section) (b : Bool) → view ≡ top → b ≡ is_skipped part (top_of (reverse view)) → b ≡ true → is_skipped part (top_of (reverse top)) ≡ true
+skipped_by part top view b e f t = ap (λ (ss : List Section). is_skipped part (top_of (reverse ss))) (sym e) ∙ sym f ∙ t
 
 -- whether work is stopped hangs on the headers that were asked for alone
 pub goes_still : (old new : PpDone) → new.deps ≡ old.deps → is_stopped old ≡ false → is_stopped new ≡ false

@@ -1,19 +1,18 @@
-use Rattle.std.proofs.Common.{◌≡◌, ◌≤◌, ◌+◌, List, Some, refl, sym, ap, subst, ◌∙◌, length, true}
+use Rattle.std.proofs.Common.{◌≡◌, ◌≤◌, ◌+◌, List, Some, refl, sym, ap, subst, ◌∙◌, length}
 use Rattle.std.specs.Prelude.{reverse}
 use Rattle.cl_cond.specs.declared.mark.Mark.{Mark}
 use Rattle.cl_cond.specs.declared.mark.Part.TheVariants.{Line}
 use Rattle.cl_pp.specs.declared.aim.Aim.{Aim}
 use Rattle.cl_pp.specs.declared.aim.Target.{Target}
 use Rattle.cl_pp.specs.declared.made.Opened.{Opened}
-use Rattle.cl_pp.specs.declared.section.Section.{Section}
 use Rattle.cl_pp.specs.Preprocessing.{Does, nothing}
 use Rattle.cl_pp.specs.code.Resuming.{Passes}
-use Rattle.cl_pp.specs.code.Stacks.{is_skipped, tell, top_of}
+use Rattle.cl_pp.specs.code.Stacks.{tell, top_of}
 use Rattle.cl_pp.specs.Places.{MarksLie}
 use Rattle.cl_pp.proofs.Arriving.{marks_it}
 use Rattle.cl_pp.proofs.Going.{gone_first, gone_on, gone_past}
 use Rattle.cl_pp.proofs.Lying.{line_lies}
-use Rattle.cl_pp.proofs.Passing.{goes_still, line_stays, passes_all, passes_to, suits_laid}
+use Rattle.cl_pp.proofs.Passing.{goes_still, line_stays, passes_all, passes_to, skipped_by, suits_laid}
 use Rattle.cl_pp.proofs.Reading.{keeps_events, within_tokens}
 use Rattle.cl_pp.proofs.file.lines.Goals as goal
 
@@ -31,14 +30,14 @@ loop-line-preserved-then-is_skipped g c =
     let marks = c.as_slice-marks.result.now in
     let none : Mark = record { part = Line; from = 0; to = 0 } in
     let line : Mark = c.in-Some.line.now in
-    let skips : is_skipped line.part (top_of (reverse c.loop-line.place.sections)) ≡ true =
-    ap (λ (ss : List Section). is_skipped line.part (top_of (reverse ss))) (sym c.as_slice.ensures.value) ∙ sym c.is_skipped.ensures ∙ c.if-is_skipped.true in
+    let top = c.loop-line.place.sections in
+    let skips = skipped_by line.part top c.as_slice.result.now c.is_skipped.result c.as_slice.ensures.value c.is_skipped.ensures c.if-is_skipped.true in
     record {
       sees = v.sees;
       deps = v.deps;
       keeps = v.keeps;
       gone = λ w past s at f stand k.
-          gone_past _ w c.loop-line.table c.as_slice-tokens.result.now marks c.args.place.now.next c.loop-line.place.next none line past c.args.made.now.done c.loop-line.made.done (reverse c.loop-line.place.sections)
+          gone_past _ w c.loop-line.table c.as_slice-tokens.result.now marks c.args.place.now.next c.loop-line.place.next none line past c.args.made.now.done c.loop-line.made.done (reverse top)
           c.in-Some.ensures.lookup.3.0 (c.in-Some.ensures.lookup.3.1 none) (goes_still c.args.made.now.done c.loop-line.made.done v.deps f) s (v.keeps w.start k) skips (v.gone w past s at f stand k);
     }
 

@@ -1,4 +1,4 @@
-use Rattle.std.proofs.Common.{◌≡◌, ◌-◌, ◌≤◌, length, List, reverse}
+use Rattle.std.proofs.Common.{◌≡◌, ◌-◌, length, List, reverse}
 use Rattle.std.specs.Prelude.{false}
 use Rattle.cl_pp.specs.Activity.{Passed}
 use Rattle.cl_pp.specs.Preprocessing.{World}
