@@ -44,7 +44,7 @@ on_by w first now new f to fs target h (past ∷ pasts) o goes =
     record {
       pasts = p.passed ∷ pasts;
       are_open = (p.stands, o.1);
-      goes = λ mid final d e. goes now final refl (e.0, (p.goes mid e.0 d e.1.0, e.1.1));
+      goes = λ mid final d e. goes now final refl (e.0, p.goes mid e.0 d e.1, e.2);
     }
 
 -- they are gone over up to one that names a header
@@ -67,7 +67,7 @@ end_by w first now new f to fs h (past ∷ pasts) o goes =
       are_open = o.1;
       goes = λ mid final d e.
           let t : State = record { past = p.passed; done = mid } in
-          goes now final refl (t, (p.goes mid t d (subst (λ (ms : List Mark). Goes at tokens ms t t) (sym p.last) (end at tokens t)), e));
+          goes now final refl (t, p.goes mid t d (subst (λ (ms : List Mark). Goes at tokens ms t t) (sym p.last) (end at tokens t)), e);
     }
 
 -- they are gone over up to the last
@@ -123,8 +123,8 @@ enters_on w first old mid begun f fs target source g asked found d finds arrives
   are_open = (stand_start [] refl, c.are_open);
   goes = λ now final e h.
       let at = world_of w f.source in
-      let reads = reads_from w (below at g.number g.path g.text) source mid begun now h.0 (same_world w f.source source g s) o e s.number s.text h.1.0 in
-      c.goes h.0.done final (enters at target old mid h.0.done asked found g.number g.path g.text d finds arrives reads) h.1.1;
+      let reads = reads_from w (below at g.number g.path g.text) source mid begun now h.0 (same_world w f.source source g s) o e s.number s.text h.1 in
+      c.goes h.0.done final (enters at target old mid h.0.done asked found g.number g.path g.text d finds arrives reads) h.2;
 }
 
 -- ---- the document
@@ -134,7 +134,7 @@ pub starts : (w : World) (source : Source) (old begun : PpDone) → world_of w s
 starts w source old begun e o n x = record {
   pasts = [] ∷ [];
   are_open = (stand_start [] refl, tt);
-  goes = λ mid final m h. subst (Reads w old) (sym h.1.1) (reads_from w w source old begun mid h.0 e o m n x h.1.0);
+  goes = λ mid final m h. subst (Reads w old) (sym h.2) (reads_from w w source old begun mid h.0 e o m n x h.1);
 }
 
 -- nothing is left
@@ -152,7 +152,7 @@ stops_all w [] (f ∷ fs) done s o = absurd o
 stops_all w (past ∷ pasts) [] done s o = absurd o
 stops_all w (past ∷ pasts) (f ∷ fs) done s o =
     let t : State = record { past = past; done = done } in
-    (t, (stop_at (world_of w f.source) f.source.opened.value.lexed.tokens (drop f.place.next f.source.opened.value.marks) t s, stops_all w pasts fs done s o.1))
+    (t, stop_at (world_of w f.source) f.source.opened.value.lexed.tokens (drop f.place.next f.source.opened.value.marks) t s, stops_all w pasts fs done s o.1)
 
 pub stopped : (w : World) (first old new : PpDone) (f : Frame) (fs : List Frame) (target : Target) → is_stopped new ≡ true → Does (world_of w f.source) (aim.Header target) old new → Continues w first old (f ∷ fs) (Some target) → Reads w first new
 stopped w first old new f fs target s d c = c.goes new new d (stops_all w c.pasts (f ∷ fs) new s c.are_open)
