@@ -23,6 +23,7 @@ mod Ordering
 mod Needing
 mod Telling
 mod Resuming
+mod Waiting
 pub mod Agreeing
 pub mod Unique
 mod Existing

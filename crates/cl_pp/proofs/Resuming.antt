@@ -23,13 +23,14 @@ use Rattle.cl_pp.specs.Activity.{Passed}
 use Rattle.cl_pp.specs.Preprocessing.{Does, Enters, Finds, Goes, Reads, State, World, arrived_in, begin, below, end, enters, lexed_by, read}
 use Rattle.cl_pp.specs.Resuming.{Agree, AreOpen, Continues, Ends, Follows, world_of}
 use Rattle.cl_pp.specs.Runs.{runs}
-use Rattle.cl_pp.specs.Standing.{is_stopped}
+use Rattle.cl_pp.specs.Standing.{is_stopped, with_asked_paths}
 use Rattle.cl_pp.specs.code.Reaching.{Arrives, IsOpened, Looks}
 use Rattle.cl_pp.specs.code.Resuming.{Passes, left}
 use Rattle.cl_pp.specs.code.Stacks.{Stand}
 use Rattle.cl_pp.proofs.Agreeing.{arrives_same, asked_same, elsewhere, front_agrees, resolves_same}
 use Rattle.cl_pp.proofs.Needing.{arrival_deps}
 use Rattle.cl_pp.proofs.Shapes.{stop_at}
+use Rattle.cl_pp.proofs.Shelving.{AreKnown, resolved_known}
 use Rattle.cl_pp.proofs.Standing.{stand_start}
 
 -- ---- the lines of the innermost file
@@ -102,15 +103,15 @@ reads_from w at source old begun mid t e o m n x g =
 
 -- the file of a header
 pub record IsOf (source : Source) (depth : ℕ) (f : Found) : Type 0 where
-  number : source.number ≡ f.number
-  depth_is : source.depth ≡ depth + 1
-  path : source.path ≡ f.path
-  text : source.text ≡ f.text
+  pub number : source.number ≡ f.number
+  pub depth_is : source.depth ≡ depth + 1
+  pub path : source.path ≡ f.path
+  pub text : source.text ≡ f.text
 
 same_world : (w : World) (around source : Source) (f : Found) → IsOf source around.depth f → world_of w source ≡ lexed_by (below (world_of w around) f.number f.path f.text) source.opened.value.lexed.faults
 same_world w around source f s = λ i. record (world_of w source) { file = s.number i; depth = s.depth_is i; path = s.path i; text = s.text i }
 
-abbrev start_of : Source → Frame
+abbrev pub start_of : Source → Frame
 start_of source = record { source = source; place = record { next = 0; sections = [] } }
 
 -- it is entered
@@ -161,10 +162,10 @@ stopped w first old new f fs target s d c = c.goes new new d (stops_all w c.past
 
 -- a search that a file is entered by
 pub record Found-by (w : World) (target : Target) (old new : PpDone) (f : Found) : Type 0 where
-  asked : List (List ℕ)
-  resolved : Resolved
-  finds : Finds w target asked resolved
-  arrives : arrived_in w target asked resolved old ≡ Enters f.number f.path f.text new
+  pub asked : List (List ℕ)
+  pub resolved : Resolved
+  pub finds : Finds w target asked resolved
+  pub arrives : arrived_in w target asked resolved old ≡ Enters f.number f.path f.text new
 
 abbrev is_need : Reached → Type 0
 is_need reached.Nothing = ⊥
@@ -204,3 +205,16 @@ all_agree known (d ∷ ds) asked h = (h.0, all_agree known ds asked h.1)
 
 pub noted_agree : (known : List ℕ → Known) (old new : List Dep) (before after : List (List ℕ)) → Agree known old → IsNoted known old new before after → Agree known new
 noted_agree known old new before after h n = subst (Agree known) (sym n.are) (all_agree known old n.asked h)
+
+pub noted_before : (other known : List ℕ → Known) (old new : List Dep) (before after : List (List ℕ)) → IsNoted known old new before after → Agree other new → Agree other old
+noted_before other known old new before after n h = front_agrees other old (map (dep_of known) n.asked) (subst (Agree other) n.are h)
+
+-- no file is open that could name a header
+pub no_file : (w : World) (first now : PpDone) (target : Target) → Continues w first now [] (Some target) → Continues w first now [] None
+no_file w first now target c = record { pasts = c.pasts; are_open = c.are_open; goes = c.goes }
+
+-- a file that is entered is known to have its text
+pub found_there : (other : List ℕ → Known) (w : World) (target : Target) (old new : PpDone) (f : Found) → Found-by w target old new f → Agree other new.deps → other f.path ≡ state.Found f.text
+found_there other w target old new f l h =
+    let there = found_same other w target old new f l h in
+    subst (AreKnown other) there.arrives (resolved_known other _ there.asked there.resolved target (with_asked_paths other there.asked old) there.finds)

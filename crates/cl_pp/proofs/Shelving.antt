@@ -24,7 +24,7 @@ use Rattle.cl_pp.specs.code.Shelving.{IsOfHeader}
 
 -- ---- a file that is entered is known to have its text
 
-abbrev AreKnown : (List ℕ → Known) → Arrival → Type 0
+abbrev pub AreKnown : (List ℕ → Known) → Arrival → Type 0
 AreKnown known (Stays done) = Unit {0}
 AreKnown known (Enters number path text done) = known path ≡ state.Found text
 
@@ -38,7 +38,7 @@ arrived_known known path state.Failed found target done e h = subst (λ (r : Res
 arrived_known known path state.Unknown found target done e h = subst (λ (r : Resolved). AreKnown known (arrived target r done)) (sym h) tt
 arrived_known known path state.Absent found target done e h = absurd h
 
-resolved_known : (known : List ℕ → Known) (paths asked : List (List ℕ)) (found : Resolved) (target : Target) (done : PpDone) → Resolves known paths asked found → AreKnown known (arrived target found done)
+pub resolved_known : (known : List ℕ → Known) (paths asked : List (List ℕ)) (found : Resolved) (target : Target) (done : PpDone) → Resolves known paths asked found → AreKnown known (arrived target found done)
 resolved_known known paths asked found target done (decided front path rest split absent comes is) = arrived_known known path (known path) found target done (λ i. known path) comes
 resolved_known known paths asked found target done (missing absent is found_is) = subst (λ (r : Resolved). AreKnown known (arrived target r done)) (sym found_is) tt
 

@@ -190,9 +190,9 @@ fn advance<B: MacroBase>(alloc: Global, base: &B, work: &mut PpWork) -> Mem<bool
         base,
         &mut work.made,
     )?;
-    if target.is_some() {
+    if let Some(target) = target {
         work.frames.push(Frame { source, place })?;
-        work.target = target;
+        work.target = Some(target);
     }
     Ok(true)
 }
