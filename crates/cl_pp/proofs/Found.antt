@@ -5,13 +5,16 @@ use Rattle.cl_base.specs.declared.headers.Known.{Known}
 use Rattle.cl_base.specs.declared.macros.Macro.{Macro}
 use Rattle.cl_base.specs.declared.macros.MacroEvent.{MacroEvent}
 use Rattle.cl_base.specs.declared.macros.MacroNo.{MacroNo}
+use Rattle.cl_headers.specs.Noting.{IsNoted}
+use Rattle.cl_headers.specs.declared.dep.Dep.{Dep}
 use Rattle.cl_macro.specs.declared.table.MacroTable.{MacroTable}
 use Rattle.cl_pp.specs.declared.done.PpAnswer.{PpAnswer}
 use Rattle.cl_pp.specs.declared.done.PpDone.{PpDone}
 use Rattle.cl_pp.specs.declared.start.PpState.{PpState}
-use Rattle.cl_pp.specs.Before.{IsFirst, before_of}
+use Rattle.cl_pp.specs.Before.{IsFirst, Preprocessed, before_of}
 use Rattle.cl_pp.specs.Places.{IfDone}
 use Rattle.cl_pp.specs.Preprocessing.{Before, Preprocesses, PreprocessesFrom, answer_by, answer_of, first_before}
+use Rattle.cl_pp.specs.Resuming.{Went}
 use Rattle.cl_pp.specs.Standing.{Start, meant, numbered, wanted}
 use Rattle.cl_pp.specs.code.Keeping.{Keeps, lookup, number_of}
 
@@ -41,3 +44,12 @@ from_first config state known path text answer f p =
       once = f.once i;
     } in
     record { macros = f.table.macros; given = f.table.given; preprocessed = subst (λ (b : Before). PreprocessesFrom b known config.includes path text answer) same p }
+
+-- going on from the start
+pub went_all : (before : Before) (known : List ℕ → Known) (folders : List (List ℕ)) (path text main : List ℕ) (deps : List Dep) (earlier later : List (List ℕ)) (done : PpDone) (answer : PpAnswer) → deps ≡ [] → main ≡ text
+    → Went before known folders path main deps earlier later done answer → Preprocessed before known folders path text earlier later answer
+went_all before known folders path text main deps earlier later done answer d t h =
+    subst (λ (x : List ℕ). Preprocessed before known folders path x earlier later answer) t (record {
+      from = record { one_token = h.read.one_token; tells = h.read.tells; done = done; reads = h.read.reads; is = h.is };
+      noted = subst (λ (ds : List Dep). IsNoted known ds done.deps earlier later) d h.noted;
+    })
