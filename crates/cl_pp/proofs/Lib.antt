@@ -22,7 +22,7 @@ mod Order
 mod Ordering
 mod Needing
 mod Telling
-mod Resuming
+pub mod Resuming
 mod Waiting
 pub mod Agreeing
 pub mod Unique

@@ -1,9 +1,8 @@
 -- A file that is gone over, line by line.
-use Rattle.std.proofs.Common.{◌≡◌, ℕ, ◌+◌, List, [], ◌∷◌, ◌++◌, Option, Some, None, refl, sym, ap, subst, ◌∙◌, length, map, append_assoc, append-nil}
+use Rattle.std.proofs.Common.{◌≡◌, ℕ, ◌+◌, List, [], ◌∷◌, ◌++◌, Option, None, refl, sym, ap, subst, ◌∙◌, length, map, append_assoc, append-nil}
 use Rattle.std.specs.Ordering.{nat_cmp}
 use Rattle.std.specs.BTreeMap.{get}
 use Rattle.cl_base.specs.Lines.{IsTableOf}
-use Rattle.cl_base.specs.declared.config.Settings.{Settings}
 use Rattle.cl_base.specs.declared.headers.Known.{Known}
 use Rattle.cl_base.specs.declared.headers.Known.TheVariants.{Unknown}
 use Rattle.cl_base.specs.declared.macros.MacroEvent.{MacroEvent}
@@ -11,7 +10,6 @@ use Rattle.cl_base.specs.declared.token.Token.{Token}
 use Rattle.cl_cond.specs.declared.mark.Mark.{Mark}
 use Rattle.cl_headers.specs.declared.dep.Dep.{Dep}
 use Rattle.cl_headers.specs.Noting.{IsNoted, dep_of}
-use Rattle.cl_lex.specs.Lexing.{Lexes}
 use Rattle.cl_lex.specs.Order.{AreInOrder}
 use Rattle.cl_macro.specs.declared.table.MacroTable.{MacroTable}
 use Rattle.cl_base.specs.declared.macros.MacroNo.{MacroNo}
@@ -20,16 +18,12 @@ use Rattle.cl_macro.proofs.Teller.{some_teller}
 use Rattle.cl_pp.specs.declared.aim.Aim.{Aim}
 use Rattle.cl_pp.specs.declared.done.PpDone.{PpDone}
 use Rattle.cl_pp.specs.declared.made.File.{File}
-use Rattle.cl_pp.specs.declared.made.Found.{Found}
-use Rattle.cl_pp.specs.declared.made.Opened.{Opened}
 use Rattle.cl_pp.specs.Activity.{Question}
 use Rattle.cl_pp.specs.Places.{Within}
-use Rattle.cl_pp.specs.Preprocessing.{Does, Goes, Reads, World, begin, below, lexed_by, read, rules_in}
-use Rattle.cl_pp.specs.Runs.{runs}
+use Rattle.cl_pp.specs.Preprocessing.{World, rules_in}
 use Rattle.cl_pp.specs.Standing.{Start, meant, numbered}
 use Rattle.cl_pp.specs.code.Going.{ComesBy}
 use Rattle.cl_pp.specs.code.Keeping.{Keeps, Suits, lookup, number_of}
-use Rattle.cl_pp.specs.code.Reaching.{IsIn, IsOpened, Reaches}
 use Rattle.cl_pp.proofs.Adding.{comes_deps}
 use Rattle.cl_pp.proofs.Withins.{within_order}
 use Rattle.std.specs.Prelude.{Bool}

@@ -1,8 +1,7 @@
 -- Work on a text that stops at a header and goes on later.
-use Rattle.std.proofs.Common.{◌≡◌, ℕ, ◌+◌, ◌<◌, List, [], ◌∷◌, ◌++◌, Option, Some, None, refl, sym, ap, subst, ◌∙◌, map, drop, reverse, true}
+use Rattle.std.proofs.Common.{◌≡◌, ℕ, ◌+◌, ◌<◌, List, [], ◌∷◌, ◌++◌, Some, None, refl, sym, ap, subst, ◌∙◌, map, drop, reverse, true}
 use Rattle.cl_base.specs.declared.headers.Known.{Known}
 use Rattle.cl_base.specs.declared.headers.Known.TheVariants as state
-use Rattle.cl_base.specs.declared.token.Token.{Token}
 use Rattle.cl_cond.specs.declared.mark.Mark.{Mark}
 use Rattle.cl_headers.specs.declared.dep.Dep.{Dep}
 use Rattle.cl_headers.specs.declared.resolving.Resolved.{Resolved}
@@ -14,18 +13,17 @@ use Rattle.cl_pp.specs.declared.aim.Target.{Target}
 use Rattle.cl_pp.specs.declared.done.PpDone.{PpDone}
 use Rattle.cl_pp.specs.declared.made.Found.{Found}
 use Rattle.cl_pp.specs.declared.made.Frame.{Frame}
-use Rattle.cl_pp.specs.declared.made.Opened.{Opened}
 use Rattle.cl_pp.specs.declared.made.Place.{Place}
 use Rattle.cl_pp.specs.declared.made.Reached.{Reached}
 use Rattle.cl_pp.specs.declared.made.Reached.TheVariants as reached
 use Rattle.cl_pp.specs.declared.made.Source.{Source}
 use Rattle.cl_pp.specs.Activity.{Passed}
 use Rattle.cl_pp.specs.Preprocessing.{Does, Enters, Finds, Goes, Reads, State, World, arrived_in, begin, below, end, enters, lexed_by, read}
-use Rattle.cl_pp.specs.Resuming.{Agree, AreOpen, Continues, Ends, Follows, world_of}
+use Rattle.cl_pp.specs.Resuming.{Agree, AreOpen, Continues, Ends, world_of}
 use Rattle.cl_pp.specs.Runs.{runs}
 use Rattle.cl_pp.specs.Standing.{is_stopped, with_asked_paths}
 use Rattle.cl_pp.specs.code.Reaching.{Arrives, IsOpened, Looks}
-use Rattle.cl_pp.specs.code.Resuming.{Passes, left}
+use Rattle.cl_pp.specs.code.Resuming.{Passes}
 use Rattle.cl_pp.specs.code.Stacks.{Stand}
 use Rattle.cl_pp.proofs.Agreeing.{arrives_same, asked_same, elsewhere, front_agrees, resolves_same}
 use Rattle.cl_pp.proofs.Needing.{arrival_deps}

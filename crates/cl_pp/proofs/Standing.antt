@@ -1,6 +1,6 @@
 -- The open sections give the answers of the lines before.
 use Rattle.std.proofs.Common.{◌≡◌, ℕ, zero, suc, List, [], ◌∷◌, refl, sym, ap, ◌∙◌, Bool, true, false, ◌&&◌, subst}
-use Rattle.std.specs.Prelude.{slice_index_or, not, reverse, if◌then◌else◌}
+use Rattle.std.specs.Prelude.{not, reverse, if◌then◌else◌}
 use Rattle.cl_cond.specs.declared.mark.Part.{Part}
 use Rattle.cl_cond.specs.declared.mark.Part.TheVariants.{Line, Branch, End}
 use Rattle.cl_cond.specs.Sections.{opens}

@@ -1,5 +1,5 @@
 -- Work that waits, and what each step makes of it.
-use Rattle.std.proofs.Common.{◌≡◌, ℕ, ◌+◌, ◌<◌, List, [], ◌∷◌, ◌++◌, Option, Some, None, refl, sym, ap, subst, ◌∙◌, map, reverse, Bool, true, false, arith}
+use Rattle.std.proofs.Common.{◌≡◌, ℕ, ◌<◌, List, [], ◌∷◌, ◌++◌, Option, Some, None, refl, sym, ap, subst, ◌∙◌, reverse, Bool, true, false, arith}
 use Rattle.std.specs.Prelude.{if◌then◌else◌, is_some, length}
 use Rattle.std.specs.BTreeMap.{get}
 use Rattle.std.specs.Cmp.Lexicographic.{slice_cmp}
@@ -8,9 +8,7 @@ use Rattle.std.specs.List.{AllByRecursion}
 use Rattle.std.proofs.lemmas.List.{reverse-append}
 use Rattle.cl_base.specs.declared.config.Settings.{Settings}
 use Rattle.cl_base.specs.declared.headers.Known.{Known}
-use Rattle.cl_base.specs.declared.headers.Known.TheVariants as state
 use Rattle.cl_base.specs.declared.macros.Macro.{Macro}
-use Rattle.cl_base.specs.declared.macros.MacroEvent.{MacroEvent}
 use Rattle.cl_base.specs.declared.macros.MacroNo.{MacroNo}
 use Rattle.cl_base.specs.declared.token.Kind.{Kind}
 use Rattle.cl_headers.specs.declared.dep.Dep.{Dep}
@@ -36,12 +34,10 @@ use Rattle.cl_pp.specs.Names.{contains}
 use Rattle.cl_pp.specs.code.Keeping.{Keeps, Sees}
 use Rattle.cl_pp.specs.code.Reaching.{IsIn, IsLaid, IsOpened, Looks}
 use Rattle.cl_pp.specs.code.Resuming.{IsAt, Passes, Stops}
-use Rattle.cl_pp.specs.code.Shelving.{IsSound}
 use Rattle.cl_pp.specs.code.Stacks.{Stand}
 use Rattle.cl_pp.proofs.Agreeing.{before_agrees, does_long, does_same}
 use Rattle.cl_pp.proofs.Reading.{keeps_events}
 use Rattle.cl_pp.proofs.Resuming.{IsOf, ended, enters_on, follows_on, found_before, found_by, found_same, no_file, passes_end, passes_on, start_of, stopped}
-use Rattle.cl_pp.proofs.Shelving.{found_known}
 use Rattle.cl_pp.proofs.Telling.{none_stopped}
 
 -- ---- open files

@@ -6,7 +6,6 @@ use Rattle.cl_base.specs.declared.headers.Known.{Known}
 use Rattle.cl_base.specs.declared.macros.Macro.{Macro}
 use Rattle.cl_base.specs.declared.macros.MacroNo.{MacroNo}
 use Rattle.cl_base.specs.declared.token.Kind.{Kind}
-use Rattle.cl_cond.specs.declared.mark.Mark.{Mark}
 use Rattle.cl_headers.specs.declared.dep.Dep.{Dep}
 use Rattle.cl_headers.specs.Noting.{IsNoted}
 use Rattle.cl_macro.specs.Rules.{TellsTokens}

@@ -218,14 +218,7 @@ fn follow<V: HeaderView>(
         return Ok(None);
     };
     let depth = frame.source.depth;
-    let reached = reach(
-        alloc,
-        config,
-        view,
-        &mut work.made,
-        &frame.source,
-        &target,
-    )?;
+    let reached = reach(alloc, config, view, &mut work.made, &frame.source, &target)?;
     work.frames.push(frame)?;
     match reached {
         Reached::Nothing => Ok(None),

@@ -15,17 +15,18 @@ use Rattle.cl_base.specs.declared.query.Query.{Query}
 use Rattle.cl_base.specs.declared.query.Query.TheVariants.{Symbols}
 use Rattle.cl_headers.specs.Headers.{Headers, known_at}
 use Rattle.cl_headers.specs.Maps.{IsHeaderMap}
-use Rattle.cl_headers.specs.Noting.{dep_of}
 use Rattle.cl_headers.specs.Resolving.{known_of}
 use Rattle.cl_pp.specs.declared.done.PpAnswer.{PpAnswer}
 use Rattle.cl_pp.specs.declared.done.PpAnswer.TheVariants as pp
 use Rattle.cl_pp.specs.declared.done.PpDone.{PpDone}
 use Rattle.cl_pp.specs.declared.start.PpState.{PpState}
-use Rattle.cl_pp.specs.Before.{IsFirst, Preprocessed, before_of}
-use Rattle.cl_pp.specs.Preprocessing.{Before, Preprocesses, answer_by}
+use Rattle.cl_pp.specs.Before.{IsFirst, before_of}
+use Rattle.cl_pp.specs.Preprocessing.{Preprocesses, answer_by}
 use Rattle.cl_pp.specs.Standing.{is_unknown, wanted, wanted_by}
-use Rattle.cl_pp.proofs.Agreeing.{Agree, from_same}
+use Rattle.cl_pp.specs.Resuming.{Agree, Went}
+use Rattle.cl_pp.proofs.Agreeing.{from_same}
 use Rattle.cl_pp.proofs.Found.{from_first}
+use Rattle.cl_pp.proofs.Resuming.{noted_agree}
 use Rattle.cl_query.specs.declared.answers.Found.{Found}
 use Rattle.cl_query.specs.declared.answers.Found.TheVariants.{Answer as Answered, Need}
 use Rattle.cl_headers.specs.declared.dep.Dep.{Dep}
@@ -34,22 +35,11 @@ use Rattle.cl_base.specs.declared.token.PpToken.{PpToken}
 use Rattle.cl_parse.specs.declared.item.Item.{Item}
 use Rattle.cl_parse.specs.Items.{ItemsOf, no_names}
 use Rattle.cl_query.specs.Symbols.{symbols_in}
-use Rattle.cl_query.specs.Finding.{FindsOver, IsFoundBy, dep_in}
-use Rattle.cl_query.specs.Seen.{Agrees}
+use Rattle.cl_query.specs.Finding.{FindsOver, IsAnsweredBy}
 use Rattle.cl_query.specs.Unknowns.{IsUnknown}
 
 pub only_symbols : (kind : Query) → kind ≡ Symbols
 only_symbols Symbols = refl
-
--- ---- what was seen
-
-agree_paths : (others headers : Headers) (paths : List (List ℕ)) → Agrees others (map (dep_in headers) paths) → Agree (known_of others) (map (dep_of (known_of headers)) paths)
-agree_paths others headers [] h = tt
-agree_paths others headers (p ∷ ps) h = (h.0, agree_paths others headers ps h.1)
-
-pub own_agrees : (headers : Headers) (paths : List (List ℕ)) → Agrees headers (map (dep_in headers) paths)
-own_agrees headers [] = tt
-own_agrees headers (p ∷ ps) = (refl, own_agrees headers ps)
 
 -- ---- what isn't known
 
@@ -70,15 +60,11 @@ by_known known p path state.Absent e h = no_path path _ h
 by_known known p path state.Failed e h = no_path path _ h
 by_known known p path (state.Found text) e h = no_path path _ h
 
-wanted_told : (known : List ℕ → Known) (paths : List (List ℕ)) (n : ℕ) (path : List ℕ) → wanted_by (slice_get (map (dep_of known) paths) n) ≡ Some path → known path ≡ state.Unknown
-wanted_told known [] zero path h = no_path path _ h
-wanted_told known [] (suc n) path h = no_path path _ h
-wanted_told known (p ∷ ps) zero path h = by_known known p path (known p) refl h
-wanted_told known (p ∷ ps) (suc n) path h = wanted_told known ps n path h
-
-some_asked : (known : List ℕ → Known) (paths : List (List ℕ)) (path : List ℕ) → wanted (map (dep_of known) paths) ≡ Some path → 0 < length paths
-some_asked known [] path h = no_path path _ h
-some_asked known (p ∷ ps) path h = omega arith
+wanted_at : (known : List ℕ → Known) (deps : List Dep) (n : ℕ) (path : List ℕ) → Agree known deps → wanted_by (slice_get deps n) ≡ Some path → known path ≡ state.Unknown
+wanted_at known [] zero path a h = no_path path _ h
+wanted_at known [] (suc n) path a h = no_path path _ h
+wanted_at known (d ∷ ds) zero path a h = by_known known d.path path d.known a.0 h
+wanted_at known (d ∷ ds) (suc n) path a h = wanted_at known ds n path a.1 h
 
 abbrev needs : PpAnswer → Type 0
 needs (pp.Done done) = ⊥
@@ -109,45 +95,32 @@ unknown_at headers path m e = none_told (known_at headers path) (lookup_told (is
 
 -- ---- what work on a job finds
 
--- the same by other names
-pub made_is : (before : Before) (known other : List ℕ → Known) (folders : List (List ℕ)) (path text bytes : List ℕ) (earlier later asked : List (List ℕ)) (answer : PpAnswer) → other ≡ known → bytes ≡ text → earlier ≡ [] → asked ≡ later
-    → Preprocessed before other folders path bytes earlier later answer → Preprocessed before known folders path text [] asked answer
-made_is before known other folders path text bytes earlier later asked answer k t e a h =
-    subst (λ (ps : List (List ℕ)). Preprocessed before known folders path text [] ps answer) (sym a)
-    (subst (λ (ps : List (List ℕ)). Preprocessed before known folders path text ps later answer) e
-    (subst (λ (x : List ℕ). Preprocessed before known folders path x earlier later answer) t
-    (subst (λ (v : List ℕ → Known). Preprocessed before v folders path bytes earlier later answer) k h)))
+module _ (config : Settings) (headers : Headers) (path text : List ℕ) (first : PpState) (earlier later : List (List ℕ)) (deps : List Dep) (f : IsFirst config.defines first) (own : Agree (known_of headers) deps) where
+  abbrev Came : PpDone → PpAnswer → Type 0
+  Came done answer = Went (before_of first) (known_of headers) config.includes path text deps earlier later done answer
 
-module _ (config : Settings) (headers : Headers) (path text : List ℕ) (first : PpState) (asked : List (List ℕ)) (f : IsFirst config.defines first) (m : 0 < length asked → IsHeaderMap headers) where
-  abbrev Made : PpAnswer → Type 0
-  Made answer = Preprocessed (before_of first) (known_of headers) config.includes path text [] asked answer
+  agrees : (done : PpDone) (answer : PpAnswer) → Came done answer → Agree (known_of headers) done.deps
+  agrees done answer w = noted_agree (known_of headers) deps done.deps earlier later own w.noted
 
-  elsewhere : (answer : PpAnswer) → Made answer → (others : Headers) → Agrees others (map (dep_in headers) asked) → Preprocesses config (known_of others) path text answer
-  elsewhere answer p others a =
-      let paths : asked ≡ p.noted.asked = p.noted.since in
-      let agrees : Agree (known_of others) p.from.done.deps =
-      subst (λ (ds : List Dep). Agree (known_of others) ds) (sym p.noted.are) (agree_paths others headers p.noted.asked (subst (λ (ps : List (List ℕ)). Agrees others (map (dep_in headers) ps)) paths a)) in
-      from_first config first (known_of others) path text answer f (from_same (known_of others) (before_of first) (known_of headers) config.includes path text answer p.from agrees)
+  elsewhere : (done : PpDone) (answer : PpAnswer) → Came done answer → (others : Headers) → Agree (known_of others) done.deps → Preprocesses config (known_of others) path text answer
+  elsewhere done answer w others a =
+      from_first config first (known_of others) path text answer f
+      (from_same (known_of others) (before_of first) (known_of headers) config.includes path text answer (record { one_token = w.read.one_token; tells = w.read.tells; done = done; reads = w.read.reads; is = w.is }) a)
 
-  needed_unknown : (needed : List ℕ) → Made (pp.Need needed) → IsUnknown headers needed
-  needed_unknown needed p =
-      let last : wanted p.from.done.deps ≡ Some needed = needed_is needed (wanted p.from.done.deps) p.from.done p.from.is in
-      unknown_at headers needed (m (subst (λ (ps : List (List ℕ)). 0 < length ps) (sym p.noted.since) (some_asked (known_of headers) p.noted.asked needed (subst (λ (ds : List Dep). wanted ds ≡ Some needed) p.noted.are last)))) (wanted_told (known_of headers) p.noted.asked (length (map (dep_of (known_of headers)) p.noted.asked) - 1) needed (subst (λ (ds : List Dep). wanted ds ≡ Some needed) p.noted.are last))
+  pub answered : (done : PpDone) (it : Found) → Came done (pp.Done done) → IsAnsweredBy text done it → FindsOver Symbols config headers path text it
+  answered done (Answered (Listed symbols) seen) w h = (
+    λ others a. answer_of_symbols config others path text done h.0.items symbols (elsewhere done (pp.Done done) w others (subst (Agree (known_of others)) h.1 a)) h.0.parses h.0.listed,
+    subst (Agree (known_of headers)) (sym h.1) (agrees done (pp.Done done) w),
+  )
+  answered done (Need needed seen) w h = absurd h
 
-  pub found : (answer : PpAnswer) (seen : List Dep) (it : Found) → Made answer → seen ≡ map (dep_in headers) asked → IsFoundBy text answer seen it → FindsOver Symbols config headers path text it
-  found (pp.Done done) seen (Answered (Listed symbols) deps) p s h =
-      let e : deps ≡ map (dep_in headers) asked = h.1 ∙ s in (
-        λ others a. answer_of_symbols config others path text done h.0.items symbols (elsewhere (pp.Done done) p others (subst (Agrees others) e a)) h.0.parses h.0.listed,
-        subst (Agrees headers) (sym e) (own_agrees headers asked),
-      )
-  found (pp.Done done) seen (Need needed deps) p s h = absurd h
-  found (pp.Need other) seen (Answered answer deps) p s h = absurd h
-  found (pp.Need other) seen (Need needed deps) p s h =
-      let e : deps ≡ map (dep_in headers) asked = h.1 ∙ s in
-      let q : Made (pp.Need needed) = subst (λ (x : List ℕ). Made (pp.Need x)) (sym h.0) p in (
-        λ others a. needs_of_symbols config others path text needed (elsewhere (pp.Need needed) q others (subst (Agrees others) e a)),
-        subst (Agrees headers) (sym e) (own_agrees headers asked),
-        needed_unknown needed q,
+  pub needed : (done : PpDone) (path_of : List ℕ) (seen : List Dep) → IsHeaderMap headers → Came done (pp.Need path_of) → seen ≡ done.deps → FindsOver Symbols config headers path text (Need path_of seen)
+  needed done path_of seen m w s =
+      let last : wanted done.deps ≡ Some path_of = needed_is path_of (wanted done.deps) done w.is in
+      (
+        λ others a. needs_of_symbols config others path text path_of (elsewhere done (pp.Need path_of) w others (subst (Agree (known_of others)) s a)),
+        subst (Agree (known_of headers)) (sym s) (agrees done (pp.Need path_of) w),
+        unknown_at headers path_of m (wanted_at (known_of headers) done.deps (length done.deps - 1) path_of (agrees done (pp.Need path_of) w) last),
       )
 
 -- ---- every query comes to something

@@ -5,4 +5,5 @@ pub mod Seen
 pub mod Over
 pub mod Worked
 pub mod Finding
+pub mod Keeping
 pub mod code

@@ -1,15 +1,16 @@
 //! Finds answers.
 
-ghost use Rattle.std.specs.Prelude.{◌≡◌, ◌<◌, ◌^◌, length, map, IfOk, OnOk};
-ghost use Rattle.cl_headers.specs.Maps.{IsHeaderMap};
-ghost use Rattle.cl_query.specs.Finding.{Finds, IsFoundBy, IsListed, dep_in};
+ghost use Rattle.std.specs.Prelude.{◌≡◌, ◌<◌, ◌^◌, length, IfOk};
+ghost use Rattle.cl_query.specs.Finding.{Finds, IsAnsweredBy, IsListed};
+ghost use Rattle.cl_query.specs.Keeping.{IsKept};
 
 use crate::job::Job;
+use crate::kept::{Kept, work_on};
 use crate::symbols::symbols;
-use cl_base::{Answer, Duplicate, EmptyBase, Known, List, Mem, Path, PpToken, Query, Symbol};
-use cl_headers::{Dep, HeaderMap, MapView};
+use cl_base::{Answer, EmptyBase, List, Mem, Path, PpToken, Query, Symbol};
+use cl_headers::{Dep, MapView};
 use cl_parse::items;
-use cl_pp::{PpAnswer, PpState, preprocess};
+use cl_pp::{PpDone, PpNeed, PpStep};
 use cl_tree::NameSet;
 use std::alloc::Global;
 
@@ -20,43 +21,37 @@ pub enum Found {
     Need(Path, List<Dep>),
 }
 
-/// Works a job.
-pub(crate) fn find(alloc: Global, job: &Job) -> Mem<Found>
-    ensures { IfOk result (Finds job.now) }
+/// Works a job, from the work that is kept, if that is work on it. Where the job needs a header, the work is kept.
+pub(crate) fn find(alloc: Global, job: &Job, kept: &mut Kept) -> Mem<Found>
+    requires { IsKept kept.now }
+    ensures found { IfOk result (Finds job.now) }
+    ensures kept { IsKept kept.new }
 {
     match job.kind {
         Query::Symbols => {
+            let work = work_on(alloc, job, kept)?;
             let mut view = MapView::new(alloc, &job.headers);
-            let start = PpState::start(alloc, &job.config)?;
-            let text = job.text.bytes();
-            let answer = preprocess(
-                alloc,
-                start,
-                &EmptyBase,
-                &job.path,
-                text,
-                &job.config,
-                &mut view,
-            )?;
-            let seen = seen_of(alloc, &job.headers, view.asked().as_slice())?;
-            let found = found_by(alloc, text, answer, seen)?;
-            Ok(found)
+            match work.go_on(alloc, &EmptyBase, &job.config, &mut view)? {
+                PpStep::Done(done) => answered(alloc, job.text.bytes(), done),
+                PpStep::Need(PpNeed { path, seen, work }) => {
+                    // no header map holds that nothing is known of a path
+                    let _ = job.headers.get(&path);
+                    kept.keep(alloc, job, work)?;
+                    Ok(Found::Need(path, seen))
+                }
+            }
         }
     }
 }
 
-/// What was found of symbols.
-fn found_by(alloc: Global, text: &[u8], answer: PpAnswer, seen: List<Dep>) -> Mem<Found>
+/// What is answered about symbols.
+fn answered(alloc: Global, text: &[u8], done: PpDone) -> Mem<Found>
     requires room { length text.now < 2 ^ 32 }
-    ensures { IfOk result (IsFoundBy text.now answer seen) }
+    ensures { IfOk result (IsAnsweredBy text.now done) }
 {
-    match answer {
-        PpAnswer::Done(done) => {
-            let listed = listed(alloc, text, done.tokens.as_slice())?;
-            Ok(Found::Answer(Answer::Symbols(listed), seen))
-        }
-        PpAnswer::Need(path) => Ok(Found::Need(path, seen)),
-    }
+    let listed = listed(alloc, text, done.tokens.as_slice())?;
+    let PpDone { deps, .. } = done;
+    Ok(Found::Answer(Answer::Symbols(listed), deps))
 }
 
 /// The symbols of a text of these tokens.
@@ -67,29 +62,4 @@ fn listed(alloc: Global, text: &[u8], tokens: &[PpToken]) -> Mem<List<Symbol>>
     let items = items(alloc, tokens, NameSet::new(alloc))?;
     let symbols = symbols(alloc, text, tokens, items.as_slice())?;
     Ok(symbols)
-}
-
-/// What these headers say of paths.
-fn seen_of(alloc: Global, headers: &HeaderMap, paths: &[Path]) -> Mem<List<Dep>>
-    ensures seen { IfOk result (λ seen. seen ≡ map (dep_in headers.now) paths.now) }
-    ensures kept { 0 < length paths.now → OnOk result (IsHeaderMap headers.now) }
-{
-    let mut seen = List::new(alloc);
-    for path in paths {
-        seen.push(dep_in(alloc, headers, path)?)?;
-    }
-    Ok(seen)
-}
-
-/// What these headers say of a path.
-fn dep_in(alloc: Global, headers: &HeaderMap, path: &Path) -> Mem<Dep>
-    ensures dep { IfOk result (λ dep. dep ≡ dep_in headers.now path.now) }
-    ensures kept { OnOk result (IsHeaderMap headers.now) }
-{
-    let known = match headers.get(path) {
-        Some(known) => known.duplicate(alloc)?,
-        None => Known::Unknown,
-    };
-    let path = path.duplicate(alloc)?;
-    Ok(Dep { path, known })
 }

@@ -4,6 +4,7 @@
 mod answers;
 mod done;
 mod job;
+mod kept;
 mod landmarks;
 mod laws;
 mod run;
@@ -12,5 +13,6 @@ mod symbols;
 
 pub use done::{Done, JobAnswer, Need};
 pub use job::Job;
+pub use kept::Kept;
 pub use laws::{answer_or_need, one_answer, some_answer};
-pub use run::run_job;
+pub use run::{resume_job, run_job};

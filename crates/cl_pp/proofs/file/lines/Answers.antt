@@ -1,4 +1,4 @@
-use Rattle.std.proofs.Common.{◌≡◌, ◌≤◌, ◌+◌, List, Some, refl, sym, ap, subst, ◌∙◌, length}
+use Rattle.std.proofs.Common.{◌≡◌, ◌≤◌, ◌+◌, Some, refl, sym, ap, subst, ◌∙◌, length}
 use Rattle.std.specs.Prelude.{reverse}
 use Rattle.cl_cond.specs.declared.mark.Mark.{Mark}
 use Rattle.cl_cond.specs.declared.mark.Part.TheVariants.{Line}

@@ -1,9 +1,9 @@
-use Rattle.std.proofs.Common.{List, refl, subst, length, ◌∙◌}
+use Rattle.std.proofs.Common.{refl, subst, length}
 use Rattle.cl_pp.specs.declared.done.PpAnswer.TheVariants as answer
 use Rattle.cl_pp.specs.declared.done.PpDone.{PpDone}
 use Rattle.cl_pp.specs.Before.{before_over}
 use Rattle.cl_pp.specs.Places.{InOrder, in_document, nowhere}
-use Rattle.cl_pp.specs.Resuming.{GoesOn, Went}
+use Rattle.cl_pp.specs.Resuming.{GoesOn}
 use Rattle.cl_pp.proofs.Found.{if_done, went_all}
 use Rattle.cl_pp.proofs.Ordering.{document_order}
 use Rattle.cl_pp.proofs.unit.preprocess.Goals as goal

@@ -1,7 +1,6 @@
-use Rattle.std.proofs.Common.{◌≡◌, List, [], ◌∷◌, ◌++◌, ◌∙◌, Option, Some, None, sym, refl, subst}
+use Rattle.std.proofs.Common.{◌∙◌, Option, Some, sym, refl, subst}
 use Rattle.std.proofs.lemmas.List.{append-nil}
 use Rattle.std.specs.List.{AllByRecursion}
-use Rattle.cl_pp.specs.declared.made.Frame.{Frame}
 use Rattle.cl_pp.specs.declared.aim.Target.{Target}
 use Rattle.cl_pp.specs.declared.work.PpWork.{PpWork}
 use Rattle.cl_pp.specs.Resuming.{Agree}

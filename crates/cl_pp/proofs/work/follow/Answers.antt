@@ -1,10 +1,7 @@
-use Rattle.std.proofs.Common.{◌≡◌, List, [], ◌∷◌, ◌++◌, ◌∙◌, Option, Some, None, ap, sym, refl, subst}
+use Rattle.std.proofs.Common.{◌≡◌, List, [], ◌∷◌, ◌++◌, ◌∙◌, Some, ap, sym, refl, subst}
 use Rattle.std.proofs.lemmas.List.{append-nil}
 use Rattle.std.specs.List.{AllByRecursion}
-use Rattle.cl_base.specs.declared.headers.Known.{Known}
-use Rattle.cl_base.specs.declared.headers.Known.TheVariants as state
 use Rattle.cl_headers.specs.Noting.{IsNoted}
-use Rattle.cl_headers.specs.declared.dep.Dep.{Dep}
 use Rattle.cl_pp.specs.declared.done.PpDone.{PpDone}
 use Rattle.cl_pp.specs.declared.made.Frame.{Frame}
 use Rattle.cl_pp.specs.declared.made.Reached.{Reached}

@@ -1,11 +1,10 @@
-use Rattle.std.proofs.Common.{◌≡◌, ℕ, List, ◌∙◌, Option, Some, None, false, refl, sym, subst, ap, rules}
+use Rattle.std.proofs.Common.{◌≡◌, ℕ, List, ◌∙◌, Option, Some, false, refl, sym, subst, rules}
 use Rattle.cl_base.specs.declared.headers.Known.{Known}
 use Rattle.cl_headers.specs.Noting.{IsNoted}
 use Rattle.cl_headers.specs.declared.dep.Dep.{Dep}
 use Rattle.cl_pp.specs.declared.made.Wanted.{Wanted}
 use Rattle.cl_pp.specs.declared.work.PpWork.{PpWork}
-use Rattle.cl_pp.specs.Resuming.{Agree, IsWork, Waits}
-use Rattle.cl_pp.specs.Standing.{first_unknown}
+use Rattle.cl_pp.specs.Resuming.{Agree}
 use Rattle.cl_pp.specs.code.Resuming.{Followed, Stops, deps_by, with_target}
 use Rattle.cl_pp.proofs.Needing.{none_wanted}
 use Rattle.cl_pp.proofs.Reading.{noted_first, noted_then}

@@ -1,4 +1,4 @@
-use Rattle.std.proofs.Common.{◌≡◌, ℕ, List, Option, Some, None, refl, sym, ap, subst}
+use Rattle.std.proofs.Common.{ℕ, List, Option, refl, sym, ap, subst}
 use Rattle.cl_headers.specs.Noting.{IsNoted}
 use Rattle.cl_pp.specs.declared.done.PpAnswer.TheVariants as answer
 use Rattle.cl_pp.specs.declared.done.PpDone.{PpDone}
