@@ -32,7 +32,10 @@ pub(crate) fn find(alloc: Global, job: &Job, kept: &mut Kept) -> Mem<Found>
             let work = work_on(alloc, job, kept)?;
             let mut view = MapView::new(alloc, &job.headers);
             match work.go_on(alloc, &EmptyBase, &job.config, &mut view)? {
-                PpStep::Done(done) => answered(alloc, job.text.bytes(), done),
+                PpStep::Done(done) => {
+                    let found = answered(alloc, job.text.bytes(), done)?;
+                    Ok(found)
+                }
                 PpStep::Need(PpNeed { path, seen, work }) => {
                     // no header map holds that nothing is known of a path
                     let _ = job.headers.get(&path);

@@ -8,14 +8,14 @@ ghost use Rattle.clsd.specs.Serving.{Awaits, EndsJob, EndsWorked, LeavesWork, Ma
 use crate::turn::job_of;
 use cl_base::{Duplicate, HeaderSource, Mem, Memory, Path};
 use cl_core::{Core, Effect, Event};
-use cl_query::{Job, JobAnswer, Need, run_job};
+use cl_query::{Job, JobAnswer, Kept, Need, resume_job};
 use std::alloc::Global;
 
 /// The most starts of a job, 2^32. Each start but the first comes after an entry of the journal, which has room for fewer.
 const MOST_STARTS: u64 = 0x1_0000_0000;
 
-/// Works on a job, which starts again after each read of a header that it needs. The event is that of its end. For a job
-/// that starts more often than the journal has room for, memory is wanting.
+/// Works on a job, which starts again after each read of a header that it needs, and goes on from the work that is kept.
+/// The event is that of its end. For a job that starts more often than the journal has room for, memory is wanting.
 pub fn work<H: HeaderSource>(
     alloc: Global,
     core: &mut Core,
@@ -27,9 +27,10 @@ pub fn work<H: HeaderSource>(
     ensures works { WorksOn core.old job → IfOk result (EndsJob core.new) }
 {
     let mut job = job;
+    let mut kept = Kept::new();
     for count in 0..MOST_STARTS {
         let _ = count;
-        match run_job(alloc, job) {
+        match resume_job(alloc, job, &mut kept) {
             JobAnswer::Done(done) => return Ok(Event::Done(done)),
             JobAnswer::Memory(job) => return Ok(Event::NoMemory(job)),
             JobAnswer::Need(need) => match read_first(alloc, core, headers, need) {

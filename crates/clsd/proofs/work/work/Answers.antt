@@ -14,6 +14,7 @@ returns-in-Err-clause-reads g c =
 
 pub loop-count-preserved : goal.loop-count-preserved
 loop-count-preserved g c = record {
+  kept = c.resume_job.ensures.kept;
   works = λ works. c.in-Ok.ensures.works (subst (WorksOn c.loop-count.core) (sym c.in-Need.ensures) (c.loop-count.invariant.works works));
   reads = made_more _ _ _ _ _ _ _ _ _ _ _ c.loop-count.invariant.reads c.in-Ok.ensures.reads (λ given xs ys so_far last held works.
       let here = so_far held works in
