@@ -1,6 +1,7 @@
 //! The work for one query.
 
 ghost use Rattle.std.specs.Prelude.{◌≡◌, ◌↔◌, IsTrue};
+ghost use Rattle.cl_query.specs.Keeping.{question_of};
 ghost use Rattle.cl_query.specs.Over.{IsOver, work_of};
 
 use crate::seen::agrees;
@@ -33,6 +34,17 @@ impl Job {
         ensures { IsTrue result ↔ IsOver self.now seen.now other.now }
     {
         self.is_same_work(other) && agrees(&other.headers, seen)
+    }
+
+    /// Whether the other job asks the same of the same text at the same path under the same settings, whatever their numbers
+    /// are and whatever is known of headers.
+    pub(crate) fn is_same_question(&self, other: &Job) -> bool
+        ensures { IsTrue result ↔ (question_of self.now ≡ question_of other.now) }
+    {
+        self.kind == other.kind
+            && self.path == other.path
+            && self.text == other.text
+            && self.config.same(&other.config)
     }
 
     /// Whether the other job is the same but for what is known of headers.

@@ -6,6 +6,7 @@ ghost use Rattle.cl_pp.specs.Resuming.{Agree, IsWork};
 ghost use Rattle.cl_query.specs.Keeping.{IsBegun, IsKept};
 
 use crate::job::Job;
+use crate::seen::agrees;
 use cl_base::{Duplicate, Mem};
 use cl_pp::{PpState, PpWork};
 use std::alloc::Global;
@@ -45,7 +46,8 @@ impl Kept {
     }
 }
 
-/// The work on a job: what is kept, if that is work on this job over what its headers say, and else work that begins.
+/// The work on a job: what is kept, if that is work on the same question, and the job's headers say what it saw of headers,
+/// and else work that begins.
 /// Nothing is kept then.
 pub(crate) fn work_on(alloc: Global, job: &Job, kept: &mut Kept) -> Mem<PpWork>
     requires { IsKept kept.now }
@@ -56,7 +58,7 @@ pub(crate) fn work_on(alloc: Global, job: &Job, kept: &mut Kept) -> Mem<PpWork>
 {
     if let Some(paused) = kept.paused.take() {
         let Paused { job: worked, work } = paused;
-        if worked.is_over(work.asked(), job) {
+        if worked.is_same_question(job) && agrees(&job.headers, work.asked()) {
             return Ok(work);
         }
     }

@@ -19,8 +19,8 @@ pub fn run_job(alloc: Global, job: Job) -> JobAnswer
     resume_job(alloc, job, &mut kept)
 }
 
-/// Works a job as `run_job` does, and keeps the work where a header is needed. Where the kept work is work on this job, and
-/// the job's headers say of the headers that it asked for what was seen, it goes on from there.
+/// Works a job as `run_job` does, and keeps the work where a header is needed. Where the kept work is of a job that asked the
+/// same of the same text, and this job's headers say of the headers that it asked for what was seen, it goes on from there.
 pub fn resume_job(alloc: Global, job: Job, kept: &mut Kept) -> JobAnswer
     requires { IsKept kept.now }
     ensures answer { IsAnswerTo job result }

@@ -3,3 +3,5 @@
 
 #[cfg(test)]
 mod large;
+#[cfg(test)]
+mod resume;

@@ -9,15 +9,15 @@ pub returns-in-Err-clause-reads : goal.returns-in-Err-clause-reads
 returns-in-Err-clause-reads g c =
     made_more _ _ _ _ _ _ _ _ _ _ _ c.loop-count.invariant.reads c.in-Err.ensures.reads (λ given xs ys so_far last held works.
     let here = so_far held works in
-    let off = last here.1.1 held (subst (λ job. Works given c.loop-count.core job held) (sym c.in-Need.ensures) here.0) in
+    let off = last here.1.1 held (subst (λ job. Works given c.loop-count.core job held) (sym c.in-Need.ensures.answer) here.0) in
     (off.0, took_some_more c.args.core.now c.loop-count.core c.read_first.new.core xs ys here.1 off.1))
 
 pub loop-count-preserved : goal.loop-count-preserved
 loop-count-preserved g c = record {
   kept = c.resume_job.ensures.kept;
-  works = λ works. c.in-Ok.ensures.works (subst (WorksOn c.loop-count.core) (sym c.in-Need.ensures) (c.loop-count.invariant.works works));
+  works = λ works. c.in-Ok.ensures.works (subst (WorksOn c.loop-count.core) (sym c.in-Need.ensures.answer) (c.loop-count.invariant.works works));
   reads = made_more _ _ _ _ _ _ _ _ _ _ _ c.loop-count.invariant.reads c.in-Ok.ensures.reads (λ given xs ys so_far last held works.
       let here = so_far held works in
-      let more = last here.1.1 held (subst (λ job. Works given c.loop-count.core job held) (sym c.in-Need.ensures) here.0) in
+      let more = last here.1.1 held (subst (λ job. Works given c.loop-count.core job held) (sym c.in-Need.ensures.answer) here.0) in
       (more.0, took_more c.args.core.now c.loop-count.core c.read_first.new.core xs ys here.1 more.1));
 }
