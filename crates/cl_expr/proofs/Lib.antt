@@ -11,6 +11,7 @@ mod Endings
 mod External
 mod Growth
 mod Heights
+mod Joins
 mod Law
 mod Numbers
 mod Reading

@@ -10,8 +10,10 @@ mod place_rows;
 mod places;
 mod reader;
 mod scan;
+mod specifiers;
 mod table;
 
 pub use expression::{
     ExprTree, Parsed, one_tree, parse, parse_expr, parse_external, parse_from, tree_or_none,
 };
+pub use specifiers::specifier_before;

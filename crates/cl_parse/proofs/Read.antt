@@ -76,15 +76,17 @@ module _ (tokens : List PpToken) (pairs : List ℕ) where
   pub before_length : (r : Reading) → Reads tokens pairs r → length (before r) ≡ r.at
   before_length r reads = length-take-le r.at r.ahead reads.within
 
-  pub bad_next : (old : Reading) (to : ℕ) (marks : Marks) → Reads tokens pairs old → old.at < length tokens → old.at < to → to ≤ length old.ahead → to ≡ bad_extent tokens pairs old.at (length tokens)
+  pub bad_next : (old : Reading) (to : ℕ) (marks : Marks) (dead : ℕ) → Reads tokens pairs old → old.at < length tokens → old.at < to → to ≤ length old.ahead → to ≡ bad_extent tokens pairs old.at (length tokens)
       → ((t : Tree) (w : Scope) → IsProper tokens pairs (has old.names) (before old) t w → ⊥) → marks.from ≡ to → AreMarks tokens pairs marks
-      → IsNext tokens pairs old (record { item = Bad old.at to; reading = record { names = old.names; ahead = old.ahead; at = to; marks = marks } })
-  bad_next old to marks reads l m w e none f k =
+      → (to < dead → (dead ≤ length old.ahead) × ((t : Tree) (w : Scope) → External (take dead old.ahead) empty to t w → ⊥))
+      → IsNext tokens pairs old (record { item = Bad old.at to; reading = record { names = old.names; ahead = old.ahead; at = to; marks = marks }; dead = dead })
+  bad_next old to marks dead reads l m w e none f k d =
       let size : length (before old) ≡ old.at = before_length old reads in
       let is : take to old.ahead ≡ lexemes_to (has old.names) pairs tokens (before old) to = front (has old.names) old.ahead old.at to reads.ahead (omega arith) w reads.short in
       record {
         reads = record { within = w; short = reads.short; ahead = from_later (has old.names) old.ahead old.at to reads.ahead (omega arith) w reads.short; from = f; marks = k };
         further = m;
+        dead = d;
         tiles = λ items tiles. (omega arith, record { starts = sym size; ends = e; none = none }, subst (λ (r : List Lexeme). ItemTiles tokens pairs (has old.names) r items) is tiles);
       }
 
@@ -111,7 +113,7 @@ module _ (tokens : List PpToken) (pairs : List ℕ) where
 
   pub proper_next : (old new : Reading) (tree : Tree) (after : Scope) (to : ℕ) (marks : Marks) → Reads tokens pairs old → old.at < to → to ≤ length old.ahead → end tree ≡ to → marks.from ≡ to → AreMarks tokens pairs marks
       → IsProper tokens pairs (has old.names) (before old) tree after → IsSettled old.names old.ahead after.changes to marks new
-      → IsNext tokens pairs old (record { item = Proper tree; reading = new })
+      → IsNext tokens pairs old (record { item = Proper tree; reading = new; dead = 0 })
   proper_next old new tree after to marks reads l w e f k p s =
       let short : length old.ahead ≤ length tokens = reads.short in
       let size : length (before old) ≡ old.at = before_length old reads in
@@ -124,6 +126,7 @@ module _ (tokens : List PpToken) (pairs : List ℕ) where
       record {
         reads = both.0;
         further = omega arith;
+        dead = λ less. absurd (omega (arith, less));
         tiles = λ items tiles. (
           omega arith,
           after,
@@ -168,6 +171,7 @@ module _ (tokens : List PpToken) (pairs : List ℕ) where
   next_of old new to next x n = record {
     reads = n.reads;
     further = subst (λ (k : ℕ). k < next.reading.at) x.at n.further;
+    dead = n.dead;
     tiles = λ items tiles. subst (λ (r : List Lexeme). ItemTiles tokens pairs (has old.names) r (next.item ∷ items)) x.before
         (subst (λ (s : NameSet). ItemTiles tokens pairs (has s) (before new) (next.item ∷ items)) x.names (n.tiles items tiles));
   }

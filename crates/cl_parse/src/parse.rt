@@ -10,13 +10,13 @@ ghost use Rattle.cl_tree.specs.declared.tree.Tree.{Tree as TheTree};
 ghost use Rattle.cl_parse.specs.Extents.{Extent};
 ghost use Rattle.cl_parse.specs.Items.{IsProper, ItemTiles, ItemsOf};
 ghost use Rattle.cl_parse.specs.code.Marks.{AreMarks, Ends};
-ghost use Rattle.cl_parse.specs.code.Reading.{IsExtended, IsNext, IsSettled, Reads, before};
+ghost use Rattle.cl_parse.specs.code.Reading.{IsDead, IsExtended, IsNext, IsSettled, Reads, before};
 
 use crate::extent::past_stop;
 use crate::item::Item;
 use crate::marks::Marks;
 use cl_base::{List, Mem, Memory, PpToken};
-use cl_expr::{Parsed, parse_external};
+use cl_expr::{Parsed, parse_external, specifier_before};
 use cl_tree::{Change, Lexeme, NameSet, Scope, bad_extent, brackets, learned, lexemes_to};
 use std::alloc::Global;
 
@@ -33,11 +33,13 @@ pub(crate) struct Reading {
     pub(crate) marks: Marks,
 }
 
-/// A next item, and how far the file is read behind it.
+/// A next item, how far the file is read behind it, and an end up to which no external declaration derives from there on; 0
+/// where none is known.
 #[derive(Drop)]
 pub(crate) struct Next {
     pub(crate) item: Item,
     pub(crate) reading: Reading,
+    pub(crate) dead: usize,
 }
 
 /// The items of these tokens, in order, where these names are typedef names before the first. 2^32 - 4 tokens or more are
@@ -65,23 +67,36 @@ fn tiles(alloc: Global, tokens: &[PpToken], pairs: &List<u32>, typedefs: NameSet
         at: 0,
         marks: Marks::new(tokens, pairs.as_slice(), 0),
     };
+    let mut dead = 0;
     while reading.at < tokens.len() {
-        let next = next_item(alloc, tokens, pairs, reading)?;
+        let next = next_item(alloc, tokens, pairs, reading, dead)?;
         items.push(next.item)?;
         reading = next.reading;
+        dead = next.dead;
     }
     Ok(items)
 }
 
 /// The next item.
-fn next_item(alloc: Global, tokens: &[PpToken], pairs: &List<u32>, reading: Reading) -> Mem<Next>
+fn next_item(
+    alloc: Global,
+    tokens: &[PpToken],
+    pairs: &List<u32>,
+    reading: Reading,
+    dead: usize,
+) -> Mem<Next>
     requires room { length tokens.now < 2 ^ 32 - 4 }
     requires some { reading.at < length tokens.now }
     requires reads { Reads tokens.now pairs.now reading }
+    requires dead { IsDead reading dead }
     ensures { IfOk result (IsNext tokens.now pairs.now reading) }
 {
     let partners = pairs.as_slice();
     let to = extent_end(tokens, partners, reading.marks);
+    if to == dead {
+        let next = passed(alloc, tokens, pairs, reading, to)?;
+        return Ok(next);
+    }
     let read = extended(alloc, tokens, partners, reading, to)?;
     let found = external(alloc, &read, to)?;
     match found {
@@ -90,7 +105,7 @@ fn next_item(alloc: Global, tokens: &[PpToken], pairs: &List<u32>, reading: Read
             Ok(next)
         }
         None => {
-            let next = passed(alloc, tokens, pairs, read)?;
+            let next = passed(alloc, tokens, pairs, read, to)?;
             Ok(next)
         }
     }
@@ -173,6 +188,7 @@ fn proper(
     Ok(Next {
         item: Item::Proper(tree),
         reading,
+        dead: 0,
     })
 }
 
@@ -207,28 +223,52 @@ fn settled(
     })
 }
 
-/// A bad item.
-fn passed(alloc: Global, tokens: &[PpToken], pairs: &List<u32>, reading: Reading) -> Mem<Next>
+/// A bad item, whose extent ends there.
+fn passed(
+    alloc: Global,
+    tokens: &[PpToken],
+    pairs: &List<u32>,
+    reading: Reading,
+    to: usize,
+) -> Mem<Next>
     requires room { length tokens.now < 2 ^ 32 - 4 }
     requires some { reading.at < length tokens.now }
     requires reads { Reads tokens.now pairs.now reading }
+    requires more { reading.at < to }
+    requires extent { Extent tokens.now pairs.now reading.at to }
     requires none { (t : TheTree) (w : TheScope) → IsProper tokens.now pairs.now (has reading.names) (before reading) t w → ⊥ }
     ensures { IfOk result (IsNext tokens.now pairs.now reading) }
 {
-    let to = bad_extent(tokens, pairs, reading.at as u32, tokens.len() as u32);
+    let past = bad_extent(tokens, pairs, reading.at as u32, tokens.len() as u32);
     let partners = pairs.as_slice();
-    let read = extended(alloc, tokens, partners, reading, to as usize)?;
-    Ok(bad(tokens, partners, read, to))
+    let read = extended(alloc, tokens, partners, reading, past as usize)?;
+    let dead = failing(alloc, &read, past, to)?;
+    Ok(bad(tokens, partners, read, past, dead))
 }
 
-/// A bad item that ends there.
-fn bad(tokens: &[PpToken], pairs: &[u32], reading: Reading, to: u32) -> Next
+/// That end, if what stands between two tokens may stand before any external declaration that derives from the second on up
+/// to there; else 0.
+fn failing(alloc: Global, reading: &Reading, past: u32, to: usize) -> Mem<usize>
+    requires at { reading.now.at < 2 ^ 32 }
+    ensures { IfOk result (λ dead. past < dead → (dead ≡ to) × (dead ≤ length reading.now.ahead) × ((t : TheTree) (w : TheScope) → External (take dead reading.now.ahead) empty past t w → (u : TheTree) × External (take dead reading.now.ahead) empty reading.now.at u w)) }
+{
+    if past as usize >= to || to > reading.ahead.len() {
+        return Ok(0);
+    }
+    let lexemes = &reading.ahead.as_slice()[..to];
+    let before = specifier_before(alloc, lexemes, reading.at as u32, past)?;
+    if before { Ok(to) } else { Ok(0) }
+}
+
+/// A bad item that ends there, where no external declaration derives behind it up to an end.
+fn bad(tokens: &[PpToken], pairs: &[u32], reading: Reading, to: u32, dead: usize) -> Next
     requires room { length tokens.now < 2 ^ 32 - 4 }
     requires some { reading.at < length tokens.now }
     requires reads { Reads tokens.now pairs.now reading }
     requires none { (t : TheTree) (w : TheScope) → IsProper tokens.now pairs.now (has reading.names) (before reading) t w → ⊥ }
     requires end { to ≡ bad_extent tokens.now pairs.now reading.at (length tokens.now) }
     requires ahead { to ≤ length reading.ahead }
+    requires dead { to < dead → (dead ≤ length reading.ahead) × ((t : TheTree) (w : TheScope) → External (take dead reading.ahead) empty to t w → ⊥) }
     ensures { IsNext tokens.now pairs.now reading result }
 {
     let marks = reading.marks.moved(tokens, pairs, to as usize);
@@ -240,5 +280,6 @@ fn bad(tokens: &[PpToken], pairs: &[u32], reading: Reading, to: u32) -> Next
             at: to as usize,
             marks,
         },
+        dead,
     }
 }

@@ -1,12 +1,15 @@
 -- How far the code has read a file.
 use Rattle.std.specs.Prelude.{◌≡◌, ◌⊎◌, ℕ, ◌<◌, ◌≤◌, List, ◌∷◌, length, take}
 use Rattle.cl_base.specs.declared.token.PpToken.{PpToken}
+use Rattle.cl_tree.specs.Derives.{External}
 use Rattle.cl_tree.specs.Lexemes.{lexemes_to}
-use Rattle.cl_tree.specs.Scopes.{known}
+use Rattle.cl_tree.specs.Scopes.{empty, known}
 use Rattle.cl_tree.specs.Sets.{has}
 use Rattle.cl_tree.specs.declared.lexeme.Lexeme.{Lexeme}
 use Rattle.cl_tree.specs.declared.scope.Change.{Change}
+use Rattle.cl_tree.specs.declared.scope.Scope.{Scope}
 use Rattle.cl_tree.specs.declared.set.NameSet.{NameSet}
+use Rattle.cl_tree.specs.declared.tree.Tree.{Tree}
 use Rattle.cl_parse.specs.Items.{ItemTiles}
 use Rattle.cl_parse.specs.code.Marks.{AreMarks}
 use Rattle.cl_parse.specs.declared.item.Item.{Item}
@@ -42,9 +45,14 @@ pub record IsSettled (names : NameSet) (ahead : List Lexeme) (changes : List Cha
   pub at : new.at ≡ to
   pub marks_are : new.marks ≡ marks
 
+-- no external declaration derives from the next item on up to an end, which is no end behind it where that isn't known
+abbrev pub IsDead : Reading → ℕ → Type 0
+IsDead r dead = r.at < dead → (dead ≤ length r.ahead) × ((t : Tree) (w : Scope) → External (take dead r.ahead) empty r.at t w → ⊥)
+
 -- the next item was read
 pub record IsNext (tokens : List PpToken) (pairs : List ℕ) (old : Reading) (next : Next) : Type 0 where
   pub reads : Reads tokens pairs next.reading
   pub further : old.at < next.reading.at
+  pub dead : IsDead next.reading next.dead
   pub tiles : (items : List Item) → ItemTiles tokens pairs (has next.reading.names) (before next.reading) items
       → ItemTiles tokens pairs (has old.names) (before old) (next.item ∷ items)

@@ -12,6 +12,7 @@ loop-reading-init c =
     let marks = subst (λ (ps : List ℕ). AreMarks c.args.tokens.now ps c.new-2.result) c.as_slice.ensures.value c.new-2.ensures.marks in
     record {
       reads = starts_reads c.args.tokens.now c.args.pairs.now c.args.typedefs c.new.result c.new-2.result c.new.ensures c.new-2.ensures.from marks;
+      dead = λ less. absurd (omega (arith, less));
       tiles = λ rest t. rw c.new-items.ensures t;
     }
 
@@ -21,6 +22,7 @@ loop-reading-preserved c =
     let made = c.in_ok-push.ensures.ok in
     record {
       reads = c.in_ok-next.ensures.reads;
+      dead = c.in_ok-next.ensures.dead;
       tiles = λ rest t.
           subst (ItemTiles c.args.tokens.now c.args.pairs.now (has c.args.typedefs) []) (sym (ap (λ (xs : List Item). xs ++ rest) made ∙ append_assoc c.loop-reading.items (item ∷ []) rest))
           (c.loop-reading.invariant.tiles (item ∷ rest) (c.in_ok-next.ensures.tiles rest t));
