@@ -1,11 +1,13 @@
-use Rattle.std.proofs.Common.{◌≡◌, ◌<◌, ℕ, List, Option, Some, None, sym, subst, ap, ◌∙◌}
+use Rattle.std.proofs.Common.{◌≡◌, ◌<◌, ◌≤◌, length, take, ℕ, List, Option, Some, None, sym, subst, ap, ◌∙◌}
 use Rattle.std.proofs.lemmas.Bool.{false≢true}
 use Rattle.std.specs.Prelude.{IfSome, is_some}
 use Rattle.cl_expr.specs.declared.expression.Parsed.{Parsed}
+use Rattle.cl_tree.specs.Derives.{External}
+use Rattle.cl_tree.specs.Scopes.{empty}
 use Rattle.cl_tree.specs.Sets.{has}
 use Rattle.cl_parse.specs.Extents.{Extent}
 use Rattle.cl_parse.specs.Items.{IsProper}
-use Rattle.cl_parse.specs.code.Reading.{IsExtended, IsNext, before}
+use Rattle.cl_parse.specs.code.Reading.{IsExtended, IsNext, Reads, before}
 use Rattle.cl_parse.proofs.Read.{external_of, next_of, proper_of}
 use Rattle.cl_parse.proofs.parse.next_item.Goals as goal
 
@@ -28,6 +30,23 @@ proper-requires-clause-is c =
 
 pub passed-requires-clause-none : goal.passed-requires-clause-none
 passed-requires-clause-none c = λ t w p. (
+    let tokens = c.args.tokens.now in
+    let pairs = c.as_slice-partners.result.now in
+    let reading = c.args.reading in
+    let to = c.extent_end-to.result in
+    let at = c.requires.reads.from in
+    let reads : Reads tokens pairs reading = subst (λ (ps : List ℕ). Reads tokens ps reading) (sym c.as_slice-partners.ensures.value) c.requires.reads in
+    let more : reading.at < to = subst (λ (n : ℕ). n < to) at c.extent_end-to.ensures.more in
+    let same : to ≡ c.args.dead = c.if-to-dead.true in
+    let d = c.requires.dead (subst (λ (n : ℕ). reading.at < n) same more) in
+    let q : IsProper tokens pairs (has reading.names) (before reading) t w =
+    subst (λ (ps : List ℕ). IsProper tokens ps (has reading.names) (before reading) t w) (sym c.as_slice-partners.ensures.value) p in
+    let x = external_of tokens pairs reading to t w reads more (subst (λ (n : ℕ). n ≤ length reading.ahead) (sym same) d.0)
+    (subst (λ (n : ℕ). Extent tokens pairs n to) at c.extent_end-to.ensures.extent) q in
+    d.1 t w (subst (λ (n : ℕ). External (take n reading.ahead) empty reading.at t w) same x))
+
+pub passed-requires-in-None-clause-none : goal.passed-requires-in-None-clause-none
+passed-requires-in-None-clause-none c = λ t w p. (
     let tokens = c.args.tokens.now in
     let pairs = c.as_slice-partners.result.now in
     let read = c.in_ok-read.read in
