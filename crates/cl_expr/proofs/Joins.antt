@@ -1,5 +1,5 @@
 -- A type specifier before an external declaration that begins with a structure, a union or an enumeration.
-use Rattle.std.proofs.Common.{◌≡◌, ℕ, zero, suc, List, [], ◌∷◌, inl, inr, refl, sym, ◌∙◌, ap, subst, length, Bool, true, false, not, ◌&&◌, ◌||◌}
+use Rattle.std.proofs.Common.{◌≡◌, ℕ, zero, suc, ◌-◌, ◌≤◌, arith, List, [], ◌∷◌, inl, inr, refl, sym, ◌∙◌, ap, subst, length, Bool, true, false, not, ◌&&◌, ◌||◌}
 use Rattle.std.specs.Prelude.{Option, Some, None}
 use Rattle.std.proofs.Math.Dec.{eqb}
 use Rattle.std.proofs.lemmas.Bool.{eqb-true, and_parts, or_cases, false≢true}
@@ -15,23 +15,20 @@ use Rattle.cl_tree.specs.declared.lexeme.Lexeme.{Lexeme}
 use Rattle.cl_tree.specs.declared.scope.Scope.{Scope}
 use Rattle.cl_tree.specs.Scopes.{class_at, leave, empty}
 use Rattle.cl_tree.specs.Grammar.{shuns}
-use Rattle.cl_tree.specs.Derives.{Has, start, end, parts, Opened, SpansFrom, External}
+use Rattle.cl_tree.specs.Derives.{Has, start, end, parts, Opened, SpansFrom, External, barred}
 use Rattle.cl_expr.specs.declared.table.Edge.{Edge}
 use Rattle.cl_expr.specs.declared.table.Label.{Label}
 use Rattle.cl_expr.specs.declared.table.Ways.{Ways}
 use Rattle.cl_expr.specs.declared.reader.Found.{Found}
 use Rattle.cl_expr.specs.code.Table.{places, place, edges, name_of, turning, turn, turned, is_named, home, kinds, firsts, goal, goals, number, scoped, entry_classes}
 use Rattle.cl_expr.specs.code.Paths.{name, node, Ended, Reads, ReadsAfter, Path, Kind, At, Whole}
-use Rattle.cl_expr.specs.code.Parses.{Begins, Parses}
+use Rattle.cl_expr.specs.code.Parses.{Begins, Parses, Joins, tags}
 use Rattle.cl_expr.proofs.All.{same_goal_is}
 use Rattle.cl_expr.proofs.Bars.{all_open}
 use Rattle.cl_expr.proofs.Bridge.{of_derives, to_derives, some_of}
 use Rattle.cl_expr.proofs.Checks.{every, some, when, when_use, is_some, not_use, none_is, none_not, some_is, every_has, some_at, member_has}
 use Rattle.cl_expr.proofs.Conditions.{among, beginners, begins_among, has_among, kind_in, place_number, no_name}
 use Rattle.cl_expr.proofs.Heights.{Inside, kind_of, of_kind, kind_flat, first_class, reads_first}
-
-abbrev pub tags : List Class
-tags = cl.Struct ∷ cl.Union ∷ cl.Enum ∷ []
 
 -- an edge that a nonterminal stands at, after nothing else
 abbrev is_node : Nonterminal → Symbol → Bool
@@ -65,9 +62,32 @@ declarations_checked : every c_outer (kinds nt.Declaration) ≡ true
 unfolding places place edges home kinds firsts goal goals entry_classes
 declarations_checked = refl
 
+abbrev c_item : ℕ → Bool
+c_item z = leads nt.BlockSpecifiers (home z)
+
+items_checked : every c_item (kinds nt.BlockItem) ≡ true
+unfolding places place edges home kinds firsts goal goals entry_classes
+items_checked = refl
+
 specifiers_checked : every c_specifiers (kinds nt.DeclarationSpecifiers) ≡ true
 unfolding places place edges turning home kinds firsts goal goals entry_classes
 specifiers_checked = refl
+
+block_checked : every c_specifiers (kinds nt.BlockSpecifiers) ≡ true
+unfolding places place edges turning home kinds firsts goal goals entry_classes
+block_checked = refl
+
+first_checked : every (λ y. kind_in y (kinds nt.TypeSpecifier)) (kinds nt.LaterTypeSpecifier) ≡ true
+unfolding kinds goal goals
+first_checked = refl
+
+labels_checked : every (λ k. not (among k (barred (shuns nt.BlockSpecifiers)))) (firsts nt.LaterTypeSpecifier) ≡ true
+unfolding shuns firsts goal goals
+labels_checked = refl
+
+open_item : shuns nt.BlockItem ≡ None
+unfolding shuns
+open_item = refl
 
 types_checked : every (λ y. kind_in y (kinds nt.LaterSpecifier) || kind_in y (kinds nt.TypedefName)) (kinds nt.TypeSpecifier) ≡ true
 unfolding kinds goal goals
@@ -187,19 +207,23 @@ module _ (cs : List Lexeme) (s : Scope) (mid : ℕ) (k : Class) (token : class_a
           not_use (among k (firsts nt.TypedefName)) (every_has (λ c. not (among c (firsts nt.TypedefName))) tags names_checked k tag)
           (has_among k (firsts nt.TypedefName) (subst (Has (firsts nt.TypedefName)) same f.begins))
 
-  module _ (h from : ℕ) (f : Tree) (y : ℕ) (first : At cs h nt.TypeSpecifier y s f s) (starts : start f ≡ from) (ends : end f ≡ mid) where
+  module _ (h from : ℕ) (f : Tree) (y : ℕ) (first : At cs h nt.TypeSpecifier y s f s) (starts : start f ≡ from) (ends : end f ≡ mid) (d : Nonterminal) (fine : every c_specifiers (kinds d) ≡ true) (begun : Opened cs d s from) where
     -- specifiers with one more before them
     abbrev longer : Tree → Tree
     longer p = node (name p) from (end p) (f ∷ parts p)
 
-    longer_is : (z : ℕ) (p : Tree) (w : Scope) → At cs (suc h) nt.DeclarationSpecifiers z s p w → start p ≡ mid → At cs (suc h) nt.DeclarationSpecifiers z s (longer p) w
-    longer_is z p w a e = (a.0, kind_node cs h (name p) from (end p) (f ∷ parts p) z s w i.state i.leaves i.ended whole, all_open cs nt.DeclarationSpecifiers s (start (longer p)) open_specifiers)
+    longer_is : (z : ℕ) (p : Tree) (w : Scope) → At cs (suc h) d z s p w → start p ≡ mid → At cs (suc h) d z s (longer p) w
+    longer_is z p w a e = (
+      a.0,
+      kind_node cs h (name p) from (end p) (f ∷ parts p) z s w i.state i.leaves i.ended whole,
+      subst (Opened cs d s) (sym (ap (λ x. x.from) (rolled (name p) from (end p) (f ∷ parts p)))) begun,
+    )
       where
         i : Inside cs h z s p w
         i = kind_of cs h z s p w a.1
 
-        checked : (leads nt.TypeSpecifier (home z) ≡ true) × (every (λ d. when (is_plain nt.TypeSpecifier d) (loops d)) (edges (home z)) ≡ true)
-        checked = and_parts (leads nt.TypeSpecifier (home z)) (every (λ d. when (is_plain nt.TypeSpecifier d) (loops d)) (edges (home z))) (every_has c_specifiers (kinds nt.DeclarationSpecifiers) specifiers_checked z a.0)
+        checked : (leads nt.TypeSpecifier (home z) ≡ true) × (every (λ v. when (is_plain nt.TypeSpecifier v) (loops v)) (edges (home z)) ≡ true)
+        checked = and_parts (leads nt.TypeSpecifier (home z)) (every (λ v. when (is_plain nt.TypeSpecifier v) (loops v)) (edges (home z))) (every_has c_specifiers (kinds d) fine z a.0)
 
         l : Leads nt.TypeSpecifier h (home z) (end p) (parts p) z i.state
         l = leads_by nt.TypeSpecifier h (home z) (end p) (parts p) z i.state checked.0 (λ q. no_name z (name p) (subst (λ (v : ℕ). name_of v ≡ Some (name p)) (sym q) i.ended.0))
@@ -208,15 +232,15 @@ module _ (cs : List Lexeme) (s : Scope) (mid : ℕ) (k : Class) (token : class_a
         place : ℕ
         place = l.edge.next
 
-        looping : (not (is_some (turning place)) ≡ true) × (some (λ d. is_plain nt.LaterSpecifier d && eqb d.next place) (edges place) ≡ true)
-        looping = and_parts (not (is_some (turning place))) (some (λ d. is_plain nt.LaterSpecifier d && eqb d.next place) (edges place))
-            (when_use (is_plain nt.TypeSpecifier l.edge) (loops l.edge) (every_has (λ d. when (is_plain nt.TypeSpecifier d) (loops d)) (edges (home z)) checked.1 l.edge l.has) l.plain)
+        looping : (not (is_some (turning place)) ≡ true) × (some (λ v. is_plain nt.LaterSpecifier v && eqb v.next place) (edges place) ≡ true)
+        looping = and_parts (not (is_some (turning place))) (some (λ v. is_plain nt.LaterSpecifier v && eqb v.next place) (edges place))
+            (when_use (is_plain nt.TypeSpecifier l.edge) (loops l.edge) (every_has (λ v. when (is_plain nt.TypeSpecifier v) (loops v)) (edges (home z)) checked.1 l.edge l.has) l.plain)
 
         still : turning place ≡ None
         still = none_is (turning place) looping.0
 
-        more : (d : Edge) × Has (edges place) d × ((is_plain nt.LaterSpecifier d && eqb d.next place) ≡ true)
-        more = some_of (λ d. is_plain nt.LaterSpecifier d && eqb d.next place) (edges place) looping.1
+        more : (v : Edge) × Has (edges place) v × ((is_plain nt.LaterSpecifier v && eqb v.next place) ≡ true)
+        more = some_of (λ v. is_plain nt.LaterSpecifier v && eqb v.next place) (edges place) looping.1
 
         edge : Edge
         edge = more.0
@@ -256,7 +280,7 @@ module _ (cs : List Lexeme) (s : Scope) (mid : ℕ) (k : Class) (token : class_a
       begins : start tree ≡ from
       same : end tree ≡ end t
 
-    outer : (g : Nonterminal) → every c_outer (kinds g) ≡ true → shuns g ≡ None → (z : ℕ) (t : Tree) (w : Scope) → At cs (suc (suc h)) g z s t w → start t ≡ mid → Longer g z t w
+    outer : (g : Nonterminal) → every (λ v. leads d (home v)) (kinds g) ≡ true → shuns g ≡ None → (z : ℕ) (t : Tree) (w : Scope) → At cs (suc (suc h)) g z s t w → start t ≡ mid → Longer g z t w
     outer g t' free z t w a e = record {
       tree = u;
       at = (a.0, kind_node cs (suc h) (name t) from (end t) (longer l.part ∷ l.rest) z s w i.state i.leaves i.ended whole, all_open cs g s (start u) free);
@@ -267,8 +291,8 @@ module _ (cs : List Lexeme) (s : Scope) (mid : ℕ) (k : Class) (token : class_a
         i : Inside cs (suc h) z s t w
         i = kind_of cs (suc h) z s t w a.1
 
-        l : Leads nt.DeclarationSpecifiers (suc h) (home z) (end t) (parts t) z i.state
-        l = leads_by nt.DeclarationSpecifiers (suc h) (home z) (end t) (parts t) z i.state (every_has c_outer (kinds g) t' z a.0) (λ q. no_name z (name t) (subst (λ (v : ℕ). name_of v ≡ Some (name t)) (sym q) i.ended.0))
+        l : Leads d (suc h) (home z) (end t) (parts t) z i.state
+        l = leads_by d (suc h) (home z) (end t) (parts t) z i.state (every_has (λ v. leads d (home v)) (kinds g) t' z a.0) (λ q. no_name z (name t) (subst (λ (v : ℕ). name_of v ≡ Some (name t)) (sym q) i.ended.0))
             (subst (λ (n : ℕ). Path (At cs (suc h)) (suc h) cs (home z) s n (end t) (parts t) z i.state) e i.path)
 
         u : Tree
@@ -283,27 +307,61 @@ module _ (cs : List Lexeme) (s : Scope) (mid : ℕ) (k : Class) (token : class_a
           l.kind,
           l.after,
           l.has,
-          plain_write cs nt.DeclarationSpecifiers (suc h) l.edge l.kind s from (longer l.part) l.after l.plain (longer_is l.kind l.part l.after l.at l.begins, ap (λ x. x.from) made),
+          plain_write cs d (suc h) l.edge l.kind s from (longer l.part) l.after l.plain (longer_is l.kind l.part l.after l.at l.begins, ap (λ x. x.from) made),
           subst (λ (v : ℕ). Path (At cs (suc h)) (suc h) cs (turn l.edge.next l.kind) l.after v (end t) l.rest z i.state) (sym (ap (λ x. x.to) made)) l.path,
         )
 
+-- a type specifier that declares nothing
+module _ (cs : List Lexeme) (s : Scope) (h from mid : ℕ) (f : Found) (p : Parses cs h s nt.LaterTypeSpecifier from (Some f)) (e : f.scope ≡ s) where
+  specifier_later : At cs h nt.LaterTypeSpecifier f.place s f.tree s
+  specifier_later = (let found = p.found in (found.1, subst (λ (v : Scope). Kind cs h f.place s f.tree v) e found.0.kind, subst (Opened cs nt.LaterTypeSpecifier s) (sym found.2) found.3))
+
+  specifier_first : At cs h nt.TypeSpecifier f.place s f.tree s
+  specifier_first = (
+    kind_has f.place (kinds nt.TypeSpecifier) (every_has (λ y. kind_in y (kinds nt.TypeSpecifier)) (kinds nt.LaterTypeSpecifier) first_checked f.place specifier_later.0),
+    specifier_later.1,
+    all_open cs nt.TypeSpecifier s (start f.tree) open_type,
+  )
+
+  specifier_starts : start f.tree ≡ from
+  specifier_starts = (let found = p.found in found.2)
+
+  -- begins no label
+  specifier_opens : Opened cs nt.BlockSpecifiers s from
+  specifier_opens = λ c token bar. (
+      let o = first_class cs h nt.LaterTypeSpecifier f.place s f.tree s specifier_later in
+      let token' : class_at cs s from ≡ Some o.class = subst (λ (i : ℕ). class_at cs s i ≡ Some o.class) specifier_starts o.token in
+      let same : c ≡ o.class = some_is (sym token ∙ token') in
+      not_use (among o.class (barred (shuns nt.BlockSpecifiers)))
+      (every_has (λ k. not (among k (barred (shuns nt.BlockSpecifiers)))) (firsts nt.LaterTypeSpecifier) labels_checked o.class o.begins)
+      (has_among o.class (barred (shuns nt.BlockSpecifiers)) (subst (Has (barred (shuns nt.BlockSpecifiers))) same bar)))
+
 -- an external declaration with a type specifier before it
-pub external_joins : (cs : List Lexeme) (from mid : ℕ) (f : Found) → Parses cs 510 empty nt.TypeSpecifier from (Some f) → f.scope ≡ empty → end f.tree ≡ mid
+pub external_joins : (cs : List Lexeme) (from mid : ℕ) (f : Found) → Parses cs 510 empty nt.LaterTypeSpecifier from (Some f) → f.scope ≡ empty → end f.tree ≡ mid
     → (k : Class) × (class_at cs empty mid ≡ Some k) × Has tags k → (t : Tree) (w : Scope) → External cs empty mid t w → (u : Tree) × External cs empty from u w
 external_joins cs from mid f p e ends k t w = by_goal
   where
-    first : At cs 510 nt.TypeSpecifier f.place empty f.tree empty
-    first = (let found = p.found in (found.1, subst (λ (v : Scope). Kind cs 510 f.place empty f.tree v) e found.0.kind, all_open cs nt.TypeSpecifier empty (start f.tree) open_type))
-
-    starts : start f.tree ≡ from
-    starts = (let found = p.found in found.2)
-
     longer_whole : (g : Nonterminal) → every c_outer (kinds g) ≡ true → shuns g ≡ None → SpansFrom g cs empty mid t w → (u : Tree) × SpansFrom g cs empty from u w
     longer_whole g c o d =
         let a = of_derives g cs empty mid t w d in
-        let l = outer cs empty mid k.0 k.1 k.2 510 from f.tree f.place first starts ends g c o a.kind t w a.at a.from in
+        let l = outer cs empty mid k.0 k.1 k.2 510 from f.tree f.place (specifier_first cs empty 510 from mid f p e) (specifier_starts cs empty 510 from mid f p e) ends nt.DeclarationSpecifiers specifiers_checked
+        (all_open cs nt.DeclarationSpecifiers empty from open_specifiers) g c o a.kind t w a.at a.from in
         (l.tree, to_derives g cs empty from l.tree w (record { kind = a.kind; at = l.at; from = l.begins; to = l.same ∙ a.to }))
 
     by_goal : External cs empty mid t w → (u : Tree) × External cs empty from u w
     by_goal (inl d) = (let l = longer_whole nt.FunctionDefinition definitions_checked open_definition d in (l.0, inl l.1))
     by_goal (inr d) = (let l = longer_whole nt.Declaration declarations_checked open_declaration d in (l.0, inr l.1))
+
+-- an item of a block with one before it
+pub item_joins : (cs : List Lexeme) (s : Scope) (h from mid : ℕ) (f : Found) → Parses cs (h - 2) s nt.LaterTypeSpecifier from (Some f) → f.scope ≡ s → end f.tree ≡ mid
+    → (k : Class) × (class_at cs s mid ≡ Some k) × Has tags k → 2 ≤ h → Joins cs h s from mid
+item_joins cs s h from mid f p e ends k deep = record { class = k.0; token = k.1; tag = k.2; joins = λ t z w a b. longer_item t z w a b }
+  where
+    size : suc (suc (h - 2)) ≡ h
+    size = omega (arith, deep)
+
+    longer_item : (t : Tree) (z : ℕ) (w : Scope) → At cs h nt.BlockItem z s t w → start t ≡ mid → (u : Tree) × At cs h nt.BlockItem z s u w × (start u ≡ from)
+    longer_item t z w a b =
+        let l = outer cs s mid k.0 k.1 k.2 (h - 2) from f.tree f.place (specifier_first cs s (h - 2) from mid f p e) (specifier_starts cs s (h - 2) from mid f p e) ends nt.BlockSpecifiers block_checked
+        (specifier_opens cs s (h - 2) from mid f p e) nt.BlockItem items_checked open_item z t w (subst (λ (n : ℕ). At cs n nt.BlockItem z s t w) (sym size) a) b in
+        (l.tree, subst (λ (n : ℕ). At cs n nt.BlockItem z s l.tree w) size l.at, l.begins)

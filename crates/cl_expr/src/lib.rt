@@ -9,6 +9,7 @@ mod looks;
 mod place_rows;
 mod places;
 mod reader;
+mod same;
 mod scan;
 mod specifiers;
 mod table;

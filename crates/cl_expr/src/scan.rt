@@ -8,7 +8,7 @@ ghost use Rattle.cl_tree.specs.Derives.{Has};
 ghost use Rattle.cl_tree.specs.declared.class.Class.{Class};
 ghost use Rattle.cl_tree.specs.declared.class.Class.TheVariants as cl;
 ghost use Rattle.cl_expr.specs.code.Table as t;
-ghost use Rattle.cl_expr.specs.code.Parses.{Begins, Enters, GoesOn, GoesWith};
+ghost use Rattle.cl_expr.specs.code.Parses.{Begins, Enters, GoesOn, GoesWith, tags};
 
 use crate::looks::{edge_number, opener_number, suffix_number};
 use crate::places::{corner, edges, kinds, openers, shuns, suffixes};
@@ -87,6 +87,16 @@ pub fn is_brace(tokens: &[Lexeme], scope: &Scope, at: u32) -> bool
 {
     match class_at(tokens, scope, at) {
         Some(class) => same_class(class, Class::RightBrace),
+        None => false,
+    }
+}
+
+/// Whether a structure, a union or an enumeration begins at a number.
+pub fn tag_at(tokens: &[Lexeme], scope: &Scope, at: u32) -> bool
+    ensures { result ≡ true → (k : Class) × (n.class_at tokens.now scope.now at ≡ Some k) × Has tags k }
+{
+    match class_at(tokens, scope, at) {
+        Some(class) => has_class(&[Class::Struct, Class::Union, Class::Enum], class),
         None => false,
     }
 }

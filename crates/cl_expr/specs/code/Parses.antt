@@ -1,7 +1,9 @@
 -- What the parts of the parser answer.
 use Rattle.std.specs.Prelude.{◌≡◌, ℕ, zero, suc, ◌≤◌, ◌<◌, ◌-◌, ◌^◌, List, [], ◌∷◌, ◌++◌, Option, Some, None, length, IfSome, IfOk, Result}
 use Rattle.cl_tree.specs.declared.class.Class.{Class}
+use Rattle.cl_tree.specs.declared.class.Class.TheVariants as cl
 use Rattle.cl_tree.specs.declared.nonterminal.Nonterminal.{Nonterminal}
+use Rattle.cl_tree.specs.declared.nonterminal.Nonterminal.TheVariants as nt
 use Rattle.cl_tree.specs.declared.grammar.Symbol.{Symbol}
 use Rattle.cl_tree.specs.declared.grammar.Symbol.TheVariants.{Token, Node, Entry}
 use Rattle.cl_tree.specs.declared.grammar.Separator.{Separator}
@@ -20,6 +22,10 @@ use Rattle.cl_tree.specs.Grammar.{takes}
 use Rattle.cl_expr.specs.code.Table.{edges, name_of, scoped, home, corner, kinds, openers, suffixes, firsts, ends, goes, entry_classes}
 use Rattle.cl_tree.specs.Derives.{Has, start, end, parts, Opened}
 use Rattle.cl_expr.specs.code.Paths.{name, node, Ended, ReadsAfter, Path, Kind, At}
+
+-- what begins a structure, a union or an enumeration
+abbrev pub tags : List Class
+tags = cl.Struct ∷ cl.Union ∷ cl.Enum ∷ []
 
 abbrev pub AllOf : (Tree → Type 0) → List Tree → Type 0
 AllOf P [] = Unit {0}
@@ -173,3 +179,10 @@ pub data Spine (cs : List Lexeme) (h : ℕ) (sa : Scope) (g : Nonterminal) : Tre
 pub record Climbs (cs : List Lexeme) (h : ℕ) (sa : Scope) (g : Nonterminal) (first : Found) (r : Option Found) : Type 0 where
   pub found : IfSome r (λ f. Sound cs (suc h) sa f × (start f.tree ≡ start first.tree))
   pub only : (t : Tree) (z : ℕ) (w : Scope) → Spine cs h sa g first.tree first.place first.scope t z w → Has (kinds g) z → Stops cs w g (end t) → Gives r t z w
+
+-- with what stands between two tokens before it, each item of a block that begins at the second is one from the first on
+pub record Joins (cs : List Lexeme) (h : ℕ) (s : Scope) (from mid : ℕ) : Type 0 where
+  pub class : Class
+  pub token : class_at cs s mid ≡ Some class
+  pub tag : Has tags class
+  pub joins : (t : Tree) (z : ℕ) (w : Scope) → At cs h nt.BlockItem z s t w → start t ≡ mid → (u : Tree) × At cs h nt.BlockItem z s u w × (start u ≡ from)
