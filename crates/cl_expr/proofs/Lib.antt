@@ -9,6 +9,7 @@ mod Deciding
 mod Elses
 mod Endings
 mod External
+mod Failed
 mod Growth
 mod Heights
 mod Joins

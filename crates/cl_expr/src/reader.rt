@@ -6,14 +6,17 @@ ghost use Rattle.cl_tree.specs.Derives.{Has, start, end, leaf, bad};
 ghost use Rattle.cl_tree.specs.declared.class.Class.{Class};
 ghost use Rattle.cl_tree.specs.declared.class.Class.TheVariants as cl;
 ghost use Rattle.cl_tree.specs.declared.nonterminal.Nonterminal.TheVariants as nt;
+ghost use Rattle.cl_tree.specs.declared.rule.Rule.TheVariants as ru;
+ghost use Rattle.cl_tree.specs.declared.tree.Tree.{out-Tree};
 ghost use Rattle.cl_tree.specs.declared.grammar.Symbol.TheVariants.{Token, Entry};
 ghost use Rattle.cl_expr.specs.code.Table as t;
 ghost use Rattle.cl_expr.specs.declared.table.Label.{Label};
 ghost use Rattle.cl_expr.specs.code.Paths.{At, Lost};
-ghost use Rattle.cl_expr.specs.code.Parses.{Parses, Nests, Part, Half, Builds, Ends, Stuck, Opens, Steps, Climbs, GoesOn, Sound, Begins, Enters};
+ghost use Rattle.cl_expr.specs.code.Parses.{Parses, Nests, Part, Half, Builds, Ends, Stuck, Opens, Steps, Climbs, GoesOn, Sound, Begins, Enters, Joins, Dead};
 
 use crate::places::{bar, corner, is_scoped, kinds, name_of, next_of, turn};
-use crate::scan::{going, has_place, is_shunned, look, opening, same_class, taken};
+use crate::same::same_scope;
+use crate::scan::{going, has_place, is_shunned, look, opening, same_class, tag_at, taken};
 use crate::table::Edge;
 use cl_base::{List, Mem};
 use cl_tree::{
@@ -82,6 +85,29 @@ fn leave(alloc: Global, place: u16, before: &Scope, inside: Scope) -> Mem<Scope>
     }
 }
 
+/// Whether an item of a block stands at an edge, after nothing else.
+fn is_entry(edge: Edge) -> bool
+    ensures { result ≡ true → (edge.before ≡ None) × (edge.symbol ≡ Entry) }
+{
+    match edge.before {
+        Some(_) => false,
+        None => match edge.symbol {
+            Symbol::Entry => true,
+            Symbol::Token(_, _) | Symbol::Node(_) => false,
+        },
+    }
+}
+
+/// Where what is no item of a block begins; the end of any other tree.
+fn failed_at(tree: &Tree) -> u32
+    ensures { result < end tree.now → ((out-Tree tree.now).rule ≡ ru.Bad) × (result ≡ start tree.now) }
+{
+    match tree.rule {
+        Rule::Bad => tree.from,
+        _ => tree.to,
+    }
+}
+
 /// The productions, over a parser of nonterminals.
 #[derive(Clone, Copy)]
 pub struct Grammar<'a, F> {
@@ -97,6 +123,16 @@ impl<F: Fn(Global, &[Lexeme], &Scope, Nonterminal, u32, u32) -> Mem<Option<Found
         ensures { IfOk result (Parses self.now.tokens.now self.now.depth scope.now goal at) }
     {
         (self.parse)(self.alloc, self.tokens, scope, goal, self.depth, at)
+    }
+
+    /// The type specifier with which an item of a block begins, if it is no typedef name.
+    fn type_specifier(&self, scope: &Scope, at: u32) -> Mem<Option<Found>>
+        requires nests { Nests self.now.tokens.now self.now.depth (F.pre self.now.parse) (F.post self.now.parse) }
+        requires deep { 2 ≤ self.now.depth }
+        ensures { IfOk result (Parses self.now.tokens.now (self.now.depth - 2) scope.now nt.LaterTypeSpecifier at) }
+    {
+        let goal = Nonterminal::LaterTypeSpecifier;
+        (self.parse)(self.alloc, self.tokens, scope, goal, self.depth - 2, at)
     }
 
     /// An item of a block, or what is none.
@@ -207,6 +243,65 @@ impl<F: Fn(Global, &[Lexeme], &Scope, Nonterminal, u32, u32) -> Mem<Option<Found
         match edge.before {
             Some(separator) => self.separated(scope, separator, edge.symbol, at),
             None => self.symbol(scope, edge.symbol, at),
+        }
+    }
+
+    /// Whether just a type specifier that declares nothing stands from one token up to another, where a structure, a union or
+    /// an enumeration begins.
+    fn specifier_to(&self, scope: &Scope, from: u32, to: u32) -> Mem<bool>
+        requires nests { Nests self.now.tokens.now self.now.depth (F.pre self.now.parse) (F.post self.now.parse) }
+        requires deep { 2 ≤ self.now.depth }
+        ensures { IfOk result (λ stands. stands ≡ true → Joins self.now.tokens.now self.now.depth scope.now from to) }
+    {
+        let tag = tag_at(self.tokens, scope, to);
+        if !tag {
+            return Ok(false);
+        }
+        let Some(found) = self.type_specifier(scope, from)? else {
+            return Ok(false);
+        };
+        let same = same_scope(&found.scope, scope);
+        if !same {
+            return Ok(false);
+        }
+        Ok(found.tree.to == to)
+    }
+
+    /// Whether an item of a block stands at an edge and none derives there, since none does where the bad one before it begins
+    /// and that is a type specifier which may stand before it.
+    fn is_dead(&self, scope: &Scope, edge: Edge, failed: u32, at: u32) -> Mem<bool>
+        requires nests { Nests self.now.tokens.now self.now.depth (F.pre self.now.parse) (F.post self.now.parse) }
+        requires none { failed < at → Parses self.now.tokens.now self.now.depth scope.now nt.BlockItem failed None }
+        ensures { IfOk result (λ dead. dead ≡ true → Dead self.now.tokens.now self.now.depth scope.now edge at) }
+    {
+        if failed >= at || self.depth < 2 {
+            return Ok(false);
+        }
+        let entry = is_entry(edge);
+        if !entry {
+            return Ok(false);
+        }
+        let stands = self.specifier_to(scope, failed, at)?;
+        Ok(stands)
+    }
+
+    /// What stands at an edge, where no item of a block derives from an earlier token on.
+    fn part_after(
+        &self,
+        scope: Scope,
+        edge: Edge,
+        failed: u32,
+        at: u32,
+    ) -> Mem<Option<Found>>
+        requires nests { Nests self.now.tokens.now self.now.depth (F.pre self.now.parse) (F.post self.now.parse) }
+        requires none { failed < at → Parses self.now.tokens.now self.now.depth scope nt.BlockItem failed None }
+        ensures { IfOk result (Part self.now.tokens.now self.now.depth scope edge.before edge.symbol at) }
+    {
+        let dead = self.is_dead(&scope, edge, failed, at)?;
+        if dead {
+            self.bad_entry(scope, at)
+        } else {
+            self.part(scope, edge, at)
         }
     }
 
@@ -371,10 +466,12 @@ impl<F: Fn(Global, &[Lexeme], &Scope, Nonterminal, u32, u32) -> Mem<Option<Found
         let mut parts = first;
         let mut to = mid;
         let mut height = least;
+        let mut failed = mid;
         while let Some(edge) = self.edge(&scope, place, to) {
-            let Some(part) = self.part(scope, edge, to)? else {
+            let Some(part) = self.part_after(scope, edge, failed, to)? else {
                 return Ok(None);
             };
+            failed = failed_at(&part.tree);
             place = turn(edge.next, part.place);
             to = part.tree.to;
             scope = part.scope;

@@ -186,3 +186,11 @@ pub record Joins (cs : List Lexeme) (h : ℕ) (s : Scope) (from mid : ℕ) : Typ
   pub token : class_at cs s mid ≡ Some class
   pub tag : Has tags class
   pub joins : (t : Tree) (z : ℕ) (w : Scope) → At cs h nt.BlockItem z s t w → start t ≡ mid → (u : Tree) × At cs h nt.BlockItem z s u w × (start u ≡ from)
+
+-- an item of a block stands at an edge, and none derives there
+pub record Dead (cs : List Lexeme) (h : ℕ) (s : Scope) (e : Edge) (at : ℕ) : Type 0 where
+  pub before : e.before ≡ None
+  pub symbol : e.symbol ≡ Entry
+  pub none : Parses cs h s nt.BlockItem at None
+  pub some : 1 ≤ h
+  pub token : (k : Class) × (class_at cs s at ≡ Some k) × (k ≡ cl.RightBrace → ⊥)
