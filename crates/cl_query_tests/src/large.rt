@@ -11,6 +11,12 @@ const LINES: usize = 150_000;
 /// How many invocations stand in one another in the other.
 const DEPTH: usize = 60_000;
 
+/// How many structures stand one behind the other.
+const STRUCTURES: usize = 20_000;
+
+/// A structure without a `;`.
+const STRUCTURE: &[u8] = b"struct S { int a; }\n";
+
 /// A function with its body, and an item that is none.
 const LINE: &[u8] = b"int a(int b) { return b; } +;\n";
 
@@ -36,6 +42,33 @@ fn long_body(rt: HostRuntime) -> Result<(), Memory> {
     repeat(&mut text, b"int a(int b) {\n", 1)?;
     repeat(&mut text, PART, LINES)?;
     repeat(&mut text, b"}\nint c;\n", 1)?;
+    assert!(rt;
+        symbols_of(alloc, text)? == 2,
+        "the function and what stands behind it"
+    );
+    Ok(())
+}
+
+#[test]
+fn bare_structures(rt: HostRuntime) -> Result<(), Memory> {
+    let alloc = rt.alloc();
+    let mut text = Vec::new(alloc);
+    repeat(&mut text, STRUCTURE, STRUCTURES)?;
+    repeat(&mut text, b"x +;\nint c;\n", 1)?;
+    assert!(rt;
+        symbols_of(alloc, text)? == 1,
+        "what stands behind them"
+    );
+    Ok(())
+}
+
+#[test]
+fn bare_structures_in_body(rt: HostRuntime) -> Result<(), Memory> {
+    let alloc = rt.alloc();
+    let mut text = Vec::new(alloc);
+    repeat(&mut text, b"int a(int b) {\n", 1)?;
+    repeat(&mut text, STRUCTURE, STRUCTURES)?;
+    repeat(&mut text, b"x +;\n}\nint c;\n", 1)?;
     assert!(rt;
         symbols_of(alloc, text)? == 2,
         "the function and what stands behind it"
