@@ -1,5 +1,5 @@
 -- What is no item of a block, and what begins behind it.
-use Rattle.std.proofs.Common.{◌≡◌, ℕ, zero, suc, ◌+◌, ◌≤◌, List, [], ◌∷◌, ◌⊎◌, inl, inr, ⊎_elim, refl, sym, ◌∙◌, ap, subst, Bool, true, false, not}
+use Rattle.std.proofs.Common.{◌≡◌, ℕ, zero, suc, ◌+◌, ◌-◌, ◌≤◌, arith, List, [], ◌∷◌, ◌⊎◌, inl, inr, ⊎_elim, refl, sym, ◌∙◌, ap, subst, Bool, true, false, not}
 use Rattle.std.specs.Prelude.{Option, Some, None}
 use Rattle.std.proofs.Math.Dec.{eqb}
 use Rattle.std.proofs.lemmas.Bool.{eq-eqb}
@@ -21,12 +21,13 @@ use Rattle.cl_tree.specs.Derives.{Has, start, end, leaf, bad}
 use Rattle.cl_expr.specs.code.Table.{Place, places, place, nowhere, name_of}
 use Rattle.cl_expr.specs.code.Looks.{class_number}
 use Rattle.cl_expr.specs.code.Paths.{name, Reads, ReadsAfter, Kind, At}
-use Rattle.cl_expr.specs.code.Parses.{Parses, Joins, Dead, tags}
+use Rattle.cl_expr.specs.code.Parses.{Parses, Before, Dead}
 use Rattle.cl_expr.specs.declared.table.Edge.{Edge}
 use Rattle.cl_expr.specs.declared.table.Label.{Label}
 use Rattle.cl_expr.proofs.Checks.{every, on_some, on_some_use, not_use, none_not, every_has}
 use Rattle.cl_expr.proofs.Conditions.{every_place, numbers, either, entry_stops}
 use Rattle.cl_expr.proofs.Heights.{kind_of, kind_flat}
+use Rattle.cl_expr.proofs.Joins.{item_joins, item_starts}
 
 abbrev is_bad : Rule → Bool
 is_bad ru.Bad = true
@@ -72,17 +73,12 @@ pub part_bad : (cs : List Lexeme) (h : ℕ) (b : Option Separator) (x : Symbol) 
 part_bad cs h None x y sa at p sw r e = reads_bad cs h x y sa at p sw r e
 part_bad cs h (Some b) x y sa at p sw r e = reads_bad cs h x y (pass cs sa b.act at) (at + 1) p sw r.1 e
 
-no_brace : (k : Class) → Has tags k → k ≡ cl.RightBrace → ⊥
-no_brace k t e =
-    not_use (eqb (class_number k) (class_number cl.RightBrace)) (every_has (λ v. not (eqb (class_number v) (class_number cl.RightBrace))) tags refl k t)
-    (eq-eqb (class_number k) (class_number cl.RightBrace) (ap class_number e))
-
 -- nor from behind it, if it may stand before any
-pub joins_dead : (cs : List Lexeme) (h : ℕ) (s : Scope) (edge : Edge) (failed at : ℕ) → (edge.before ≡ None) × (edge.symbol ≡ Entry) → Joins cs h s failed at → Parses cs h s nt.BlockItem failed None → 1 ≤ h → Dead cs h s edge at
-joins_dead cs h s edge failed at is j none some = record {
+pub before_dead : (cs : List Lexeme) (h : ℕ) (s : Scope) (edge : Edge) (failed at : ℕ) → (edge.before ≡ None) × (edge.symbol ≡ Entry) → 2 ≤ h → Before cs (h - 2) s failed at → Parses cs h s nt.BlockItem failed None → Dead cs h s edge at
+before_dead cs h s edge failed at is deep b none = record {
   before = is.0;
   symbol = is.1;
-  none = record { found = tt; only = λ t z w a b stops. (let u = j.joins t z w a b in none.only u.0 z w u.1 u.2 (λ k token has. entry_stops k has)) };
-  some = some;
-  token = (j.class, j.token, no_brace j.class j.tag);
+  none = record { found = tt; only = λ t z w a e stops. (let u = item_joins cs s h failed at deep b t z w a e in none.only u.0 z w u.1 u.2 (λ k token has. entry_stops k has)) };
+  some = omega (arith, deep);
+  token = item_starts cs (h - 2) s failed at b;
 }

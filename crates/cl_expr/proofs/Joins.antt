@@ -1,8 +1,8 @@
--- A type specifier before an external declaration that begins with a structure, a union or an enumeration.
-use Rattle.std.proofs.Common.{◌≡◌, ℕ, zero, suc, ◌-◌, ◌≤◌, arith, List, [], ◌∷◌, inl, inr, refl, sym, ◌∙◌, ap, subst, length, Bool, true, false, not, ◌&&◌, ◌||◌}
+-- Declaration specifiers before others.
+use Rattle.std.proofs.Common.{◌≡◌, ℕ, zero, suc, ◌-◌, ◌≤◌, arith, List, [], ◌∷◌, ◌++◌, ◌⊎◌, inl, inr, refl, sym, ◌∙◌, ap, subst, length, Bool, true, false, not, ◌&&◌, ◌||◌}
 use Rattle.std.specs.Prelude.{Option, Some, None}
 use Rattle.std.proofs.Math.Dec.{eqb}
-use Rattle.std.proofs.lemmas.Bool.{eqb-true, and_parts, or_cases, false≢true}
+use Rattle.std.proofs.lemmas.Bool.{eqb-true, eq-eqb, and_parts, or_cases, false≢true}
 use Rattle.cl_tree.specs.declared.class.Class.{Class}
 use Rattle.cl_tree.specs.declared.class.Class.TheVariants as cl
 use Rattle.cl_tree.specs.declared.nonterminal.Nonterminal.{Nonterminal}
@@ -20,15 +20,20 @@ use Rattle.cl_expr.specs.declared.table.Edge.{Edge}
 use Rattle.cl_expr.specs.declared.table.Label.{Label}
 use Rattle.cl_expr.specs.declared.table.Ways.{Ways}
 use Rattle.cl_expr.specs.declared.reader.Found.{Found}
-use Rattle.cl_expr.specs.code.Table.{places, place, edges, name_of, turning, turn, turned, is_named, home, kinds, firsts, goal, goals, number, scoped, entry_classes}
+use Rattle.cl_expr.specs.code.Table.{places, place, edges, name_of, turning, turn, turned, is_named, home, kinds, openers, firsts, goes, goal, goals, number, scoped, entry_classes}
+use Rattle.cl_expr.specs.code.Looks.{class_number}
 use Rattle.cl_expr.specs.code.Paths.{name, node, Ended, Reads, ReadsAfter, Path, Kind, At, Whole}
-use Rattle.cl_expr.specs.code.Parses.{Begins, Parses, Joins, tags}
+use Rattle.cl_expr.specs.code.Parses.{Begins, Enters, Parses, Stops, Before, Chain, Led, tag, other, begun, typed, untyped, tags}
 use Rattle.cl_expr.proofs.All.{same_goal_is}
 use Rattle.cl_expr.proofs.Bars.{all_open}
 use Rattle.cl_expr.proofs.Bridge.{of_derives, to_derives, some_of}
-use Rattle.cl_expr.proofs.Checks.{every, some, when, when_use, is_some, not_use, none_is, none_not, some_is, every_has, some_at, member_has}
-use Rattle.cl_expr.proofs.Conditions.{among, beginners, begins_among, has_among, kind_in, place_number, no_name}
-use Rattle.cl_expr.proofs.Heights.{Inside, kind_of, of_kind, kind_flat, first_class, reads_first}
+use Rattle.cl_expr.proofs.Checks.{every, some, member_left, member_right, when, when_use, is_some, not_use, not_false, none_is, none_not, some_is, every_has, some_at, member_has}
+use Rattle.cl_expr.proofs.Conditions.{among, among_has, beginners, begins_among, enters_among, entering, has_among, kind_in, no_name, one_edge, place_number}
+use Rattle.cl_expr.proofs.Heights.{Inside, kind_of, of_kind, first_class, path_enters, reads_first}
+
+-- what begins specifiers that may stand behind others
+abbrev starts : List Class
+starts = tags ++ firsts nt.OtherSpecifier
 
 -- an edge that a nonterminal stands at, after nothing else
 abbrev is_node : Nonterminal → Symbol → Bool
@@ -36,59 +41,74 @@ is_node g (Token c a) = false
 is_node g (Node f) = eqb (number f) (number g)
 is_node g Entry = false
 
+-- and behind which none of these begins anything
 abbrev is_plain : Nonterminal → Edge → Bool
 is_plain g e = not (is_some e.before) && is_node g e.symbol
 
--- where a production begins with a tag, it begins with a nonterminal
+abbrev is_quiet : Edge → Bool
+is_quiet e = not (is_some (name_of e.next)) && (not (is_some (turning e.next)) && every (λ k. not (among k (entering e.next))) starts)
+
 abbrev leads : Nonterminal → ℕ → Bool
-leads g q = every (λ e. when (some (λ k. among k (beginners e.before e.symbol)) tags) (is_plain g e)) (edges q)
+leads g q = every (λ e. when (some (λ k. among k (beginners e.before e.symbol)) starts) (is_plain g e && is_quiet e)) (edges q)
 
--- behind a type specifier others may stand at the same place
-abbrev loops : Edge → Bool
-loops d = not (is_some (turning d.next)) && some (λ e. is_plain nt.LaterSpecifier e && eqb e.next d.next) (edges d.next)
-
-abbrev c_specifiers : ℕ → Bool
-c_specifiers z = leads nt.TypeSpecifier (home z) && every (λ e. when (is_plain nt.TypeSpecifier e) (loops e)) (edges (home z))
-
--- and the place behind the specifiers is one
-abbrev c_outer : ℕ → Bool
-c_outer z = leads nt.DeclarationSpecifiers (home z)
-
-definitions_checked : every c_outer (kinds nt.FunctionDefinition) ≡ true
-unfolding places place edges home kinds firsts goal goals entry_classes
+definitions_checked : every (λ z. leads nt.DeclarationSpecifiers (home z)) (kinds nt.FunctionDefinition) ≡ true
+unfolding places place edges name_of turning home kinds firsts goal goals entry_classes
 definitions_checked = refl
 
-declarations_checked : every c_outer (kinds nt.Declaration) ≡ true
-unfolding places place edges home kinds firsts goal goals entry_classes
+declarations_checked : every (λ z. leads nt.DeclarationSpecifiers (home z)) (kinds nt.Declaration) ≡ true
+unfolding places place edges name_of turning home kinds firsts goal goals entry_classes
 declarations_checked = refl
 
-abbrev c_item : ℕ → Bool
-c_item z = leads nt.BlockSpecifiers (home z)
-
-items_checked : every c_item (kinds nt.BlockItem) ≡ true
-unfolding places place edges home kinds firsts goal goals entry_classes
+items_checked : every (λ z. leads nt.BlockSpecifiers (home z)) (kinds nt.BlockItem) ≡ true
+unfolding places place edges name_of turning home kinds firsts goal goals entry_classes
 items_checked = refl
 
+-- the kinds of specifiers begin at one place, and aren't blocks
+abbrev c_specifiers : ℕ → Bool
+c_specifiers z = eqb (home z) begun && not (scoped z)
+
 specifiers_checked : every c_specifiers (kinds nt.DeclarationSpecifiers) ≡ true
-unfolding places place edges turning home kinds firsts goal goals entry_classes
+unfolding places place home scoped kinds openers goal goals
 specifiers_checked = refl
 
 block_checked : every c_specifiers (kinds nt.BlockSpecifiers) ≡ true
-unfolding places place edges turning home kinds firsts goal goals entry_classes
+unfolding places place home scoped kinds openers goal goals
 block_checked = refl
 
-first_checked : every (λ y. kind_in y (kinds nt.TypeSpecifier)) (kinds nt.LaterTypeSpecifier) ≡ true
-unfolding kinds goal goals
-first_checked = refl
+abbrev edge_other : Edge
+edge_other = record { before = None; symbol = Node nt.OtherSpecifier; next = untyped }
 
-labels_checked : every (λ k. not (among k (barred (shuns nt.BlockSpecifiers)))) (firsts nt.LaterTypeSpecifier) ≡ true
-unfolding shuns firsts goal goals
-labels_checked = refl
+abbrev edge_type : Edge
+edge_type = record { before = None; symbol = Node nt.TypeSpecifier; next = typed }
 
-open_item : shuns nt.BlockItem ≡ None
-unfolding shuns
-open_item = refl
+abbrev edge_later : Edge
+edge_later = record { before = None; symbol = Node nt.LaterSpecifier; next = typed }
 
+has_other : Has (edges untyped) edge_other
+unfolding places place edges kinds goal goals
+has_other = (0, refl)
+
+has_type : Has (edges untyped) edge_type
+unfolding places place edges kinds goal goals
+has_type = (1, refl)
+
+has_later : Has (edges typed) edge_later
+unfolding places place edges kinds goal goals
+has_later = (0, refl)
+
+same_edges : edges begun ≡ edges untyped
+unfolding places place edges kinds openers goal goals
+same_edges = refl
+
+untyped_turns : turning untyped ≡ None
+unfolding places place turning kinds goal goals
+untyped_turns = refl
+
+typed_turns : turning typed ≡ None
+unfolding places place turning kinds goal goals
+typed_turns = refl
+
+-- specifiers as others, behind others
 types_checked : every (λ y. kind_in y (kinds nt.LaterSpecifier) || kind_in y (kinds nt.TypedefName)) (kinds nt.TypeSpecifier) ≡ true
 unfolding kinds goal goals
 types_checked = refl
@@ -96,6 +116,34 @@ types_checked = refl
 names_checked : every (λ k. not (among k (firsts nt.TypedefName))) tags ≡ true
 unfolding firsts goal goals
 names_checked = refl
+
+tags_checked : every (λ k. among k (firsts nt.TypeSpecifier)) tags ≡ true
+unfolding firsts goal goals
+tags_checked = refl
+
+first_checked : every (λ y. kind_in y (kinds nt.TypeSpecifier)) (kinds nt.LaterTypeSpecifier) ≡ true
+unfolding kinds goal goals
+first_checked = refl
+
+others_checked : every (λ y. kind_in y (kinds nt.LaterSpecifier)) (kinds nt.OtherSpecifier) ≡ true
+unfolding kinds goal goals
+others_checked = refl
+
+others_stop : goes nt.OtherSpecifier ≡ []
+unfolding goes goal goals
+others_stop = refl
+
+later_checked : every (λ y. kind_in y (kinds nt.LaterSpecifier)) (kinds nt.LaterTypeSpecifier) ≡ true
+unfolding kinds goal goals
+later_checked = refl
+
+labels_checked : every (λ k. not (among k (barred (shuns nt.BlockSpecifiers)))) (firsts nt.LaterSpecifier) ≡ true
+unfolding shuns firsts goal goals
+labels_checked = refl
+
+open_item : shuns nt.BlockItem ≡ None
+unfolding shuns
+open_item = refl
 
 open_definition : shuns nt.FunctionDefinition ≡ None
 unfolding shuns
@@ -146,222 +194,323 @@ unfolding turn
 turn_none q y e = ap (λ (o : Option Ways). turned o q (is_named y)) e
 
 -- a part at a plain edge
-plain_write_by : (cs : List Lexeme) (g : Nonterminal) (h : ℕ) (b : Option Separator) (x : Symbol) (y : ℕ) (sa : Scope) (at : ℕ) (p : Tree) (w : Scope) → not (is_some b) ≡ true → x ≡ Node g
+plain_read : (cs : List Lexeme) (g : Nonterminal) (h : ℕ) (b : Option Separator) (x : Symbol) (y : ℕ) (sa : Scope) (at : ℕ) (p : Tree) (w : Scope) → not (is_some b) ≡ true → x ≡ Node g
+    → ReadsAfter (At cs h) h cs b x y sa at p w → At cs h g y sa p w × (start p ≡ at)
+plain_read cs g h None x y sa at p w t e r = subst (λ (u : Symbol). Reads (At cs h) h cs u y sa at p w) e r
+plain_read cs g h (Some b) x y sa at p w t e r = absurd (false≢true t)
+
+plain_write : (cs : List Lexeme) (g : Nonterminal) (h : ℕ) (b : Option Separator) (x : Symbol) (y : ℕ) (sa : Scope) (at : ℕ) (p : Tree) (w : Scope) → not (is_some b) ≡ true → x ≡ Node g
     → At cs h g y sa p w × (start p ≡ at) → ReadsAfter (At cs h) h cs b x y sa at p w
-plain_write_by cs g h None x y sa at p w t e r = subst (λ (u : Symbol). Reads (At cs h) h cs u y sa at p w) (sym e) r
-plain_write_by cs g h (Some b) x y sa at p w t e r = absurd (false≢true t)
+plain_write cs g h None x y sa at p w t e r = subst (λ (u : Symbol). Reads (At cs h) h cs u y sa at p w) (sym e) r
+plain_write cs g h (Some b) x y sa at p w t e r = absurd (false≢true t)
 
-plain_write : (cs : List Lexeme) (g : Nonterminal) (h : ℕ) (e : Edge) (y : ℕ) (sa : Scope) (at : ℕ) (p : Tree) (w : Scope) → is_plain g e ≡ true → At cs h g y sa p w × (start p ≡ at)
-    → ReadsAfter (At cs h) h cs e.before e.symbol y sa at p w
-plain_write cs g h e y sa at p w t r =
-    let both = and_parts (not (is_some e.before)) (is_node g e.symbol) t in
-    plain_write_by cs g h e.before e.symbol y sa at p w both.0 (node_of g e.symbol both.1) r
+-- a part is what was found
+here : (cs : List Lexeme) (h : ℕ) (s : Scope) (g : Nonterminal) (at : ℕ) (f : Found) → Parses cs h s g at (Some f) → At cs h g f.place s f.tree f.scope × (start f.tree ≡ at)
+here cs h s g at f p = (let found = p.found in ((found.1, found.0.kind, subst (Opened cs g s) (sym found.2) found.3), found.2))
 
-module _ (cs : List Lexeme) (s : Scope) (mid : ℕ) (k : Class) (token : class_at cs s mid ≡ Some k) (tag : Has tags k) where
-  -- the first part, where a tag stands first
-  record Leads (g : Nonterminal) (h q to : ℕ) (ps : List Tree) (z : ℕ) (v : Scope) : Type 0 where
-    edge : Edge
-    has : Has (edges q) edge
-    plain : is_plain g edge ≡ true
-    part : Tree
-    rest : List Tree
-    are : ps ≡ part ∷ rest
-    kind : ℕ
-    after : Scope
-    at : At cs h g kind s part after
-    begins : start part ≡ mid
-    path : Path (At cs h) h cs (turn edge.next kind) after (end part) to rest z v
+-- the token with which it begins
+first_here : (cs : List Lexeme) (h : ℕ) (s : Scope) (g : Nonterminal) (at y : ℕ) (p : Tree) (w : Scope) → At cs h g y s p w → start p ≡ at → (k : Class) × (class_at cs s at ≡ Some k) × Has (firsts g) k
+first_here cs h s g at y p w a e = (let f = first_class cs h g y s p w a in (f.class, subst (λ (i : ℕ). class_at cs s i ≡ Some f.class) e f.token, f.begins))
 
-  plain_read : (g : Nonterminal) (h : ℕ) (b : Option Separator) (x : Symbol) (y : ℕ) (p : Tree) (w : Scope) → not (is_some b) ≡ true → x ≡ Node g
-      → ReadsAfter (At cs h) h cs b x y s mid p w → At cs h g y s p w × (start p ≡ mid)
-  plain_read g h None x y p w t e r = subst (λ (u : Symbol). Reads (At cs h) h cs u y s mid p w) e r
-  plain_read g h (Some b) x y p w t e r = absurd (false≢true t)
+later_other : (cs : List Lexeme) (h y : ℕ) (s : Scope) (p : Tree) (w : Scope) → At cs h nt.OtherSpecifier y s p w → At cs h nt.LaterSpecifier y s p w
+later_other cs h y s p w a =
+    (kind_has y (kinds nt.LaterSpecifier) (every_has (λ v. kind_in v (kinds nt.LaterSpecifier)) (kinds nt.OtherSpecifier) others_checked y a.0), a.1, all_open cs nt.LaterSpecifier s (start p) open_later)
 
-  leads_by : (g : Nonterminal) (h q to : ℕ) (ps : List Tree) (z : ℕ) (v : Scope) → leads g q ≡ true → (q ≡ z → ⊥) → Path (At cs h) h cs q s mid to ps z v → Leads g h q to ps z v
-  leads_by g h q to [] z v t inner p = absurd (inner p.1)
-  leads_by g h q to (p ∷ ps) z v t inner a =
-      let e = a.0 in
-      let f = reads_first cs h e.before e.symbol a.1 s mid p a.2 a.4 in
-      let same : f.class ≡ k = some_is (sym f.token ∙ token) in
-      let meets : some (λ c. among c (beginners e.before e.symbol)) tags ≡ true
-      = some_at (λ c. among c (beginners e.before e.symbol)) tags tag.0 k tag.1 (begins_among e.before e.symbol k (subst (Begins e.before e.symbol) same f.begins)) in
-      let plain = when_use (some (λ c. among c (beginners e.before e.symbol)) tags) (is_plain g e)
-      (every_has (λ d. when (some (λ c. among c (beginners d.before d.symbol)) tags) (is_plain g d)) (edges q) t e a.3) meets in
-      let both = and_parts (not (is_some e.before)) (is_node g e.symbol) plain in
-      let r = plain_read g h e.before e.symbol a.1 p a.2 both.0 (node_of g e.symbol both.1) a.4 in
-      record { edge = e; has = a.3; plain = plain; part = p; rest = ps; are = refl; kind = a.1; after = a.2; at = r.0; begins = r.1; path = a.5 }
-
-  -- a type specifier there is one that may stand behind others
-  later_kind : (h y : ℕ) (p : Tree) (w : Scope) → At cs h nt.TypeSpecifier y s p w → start p ≡ mid → Has (kinds nt.LaterSpecifier) y
-  later_kind h y p w a e =
-      elim (or_cases (kind_in y (kinds nt.LaterSpecifier)) (kind_in y (kinds nt.TypedefName)) (every_has (λ v. kind_in v (kinds nt.LaterSpecifier) || kind_in v (kinds nt.TypedefName)) (kinds nt.TypeSpecifier) types_checked y a.0)) [
-      | inl x ↦ kind_has y (kinds nt.LaterSpecifier) x
-      | inr x ↦ absurd (not_name x)
-      ]
-    where
-      not_name : kind_in y (kinds nt.TypedefName) ≡ true → ⊥
-      not_name x =
-          let f = first_class cs h nt.TypedefName y s p w (kind_has y (kinds nt.TypedefName) x, a.1, all_open cs nt.TypedefName s (start p) open_name) in
-          let token' : class_at cs s mid ≡ Some f.class = subst (λ (i : ℕ). class_at cs s i ≡ Some f.class) e f.token in
-          let same : f.class ≡ k = some_is (sym token' ∙ token) in
-          not_use (among k (firsts nt.TypedefName)) (every_has (λ c. not (among c (firsts nt.TypedefName))) tags names_checked k tag)
-          (has_among k (firsts nt.TypedefName) (subst (Has (firsts nt.TypedefName)) same f.begins))
-
-  module _ (h from : ℕ) (f : Tree) (y : ℕ) (first : At cs h nt.TypeSpecifier y s f s) (starts : start f ≡ from) (ends : end f ≡ mid) (d : Nonterminal) (fine : every c_specifiers (kinds d) ≡ true) (begun : Opened cs d s from) where
-    -- specifiers with one more before them
-    abbrev longer : Tree → Tree
-    longer p = node (name p) from (end p) (f ∷ parts p)
-
-    longer_is : (z : ℕ) (p : Tree) (w : Scope) → At cs (suc h) d z s p w → start p ≡ mid → At cs (suc h) d z s (longer p) w
-    longer_is z p w a e = (
-      a.0,
-      kind_node cs h (name p) from (end p) (f ∷ parts p) z s w i.state i.leaves i.ended whole,
-      subst (Opened cs d s) (sym (ap (λ x. x.from) (rolled (name p) from (end p) (f ∷ parts p)))) begun,
-    )
-      where
-        i : Inside cs h z s p w
-        i = kind_of cs h z s p w a.1
-
-        checked : (leads nt.TypeSpecifier (home z) ≡ true) × (every (λ v. when (is_plain nt.TypeSpecifier v) (loops v)) (edges (home z)) ≡ true)
-        checked = and_parts (leads nt.TypeSpecifier (home z)) (every (λ v. when (is_plain nt.TypeSpecifier v) (loops v)) (edges (home z))) (every_has c_specifiers (kinds d) fine z a.0)
-
-        l : Leads nt.TypeSpecifier h (home z) (end p) (parts p) z i.state
-        l = leads_by nt.TypeSpecifier h (home z) (end p) (parts p) z i.state checked.0 (λ q. no_name z (name p) (subst (λ (v : ℕ). name_of v ≡ Some (name p)) (sym q) i.ended.0))
-            (subst (λ (n : ℕ). Path (At cs h) h cs (home z) s n (end p) (parts p) z i.state) e i.path)
-
-        place : ℕ
-        place = l.edge.next
-
-        looping : (not (is_some (turning place)) ≡ true) × (some (λ v. is_plain nt.LaterSpecifier v && eqb v.next place) (edges place) ≡ true)
-        looping = and_parts (not (is_some (turning place))) (some (λ v. is_plain nt.LaterSpecifier v && eqb v.next place) (edges place))
-            (when_use (is_plain nt.TypeSpecifier l.edge) (loops l.edge) (every_has (λ v. when (is_plain nt.TypeSpecifier v) (loops v)) (edges (home z)) checked.1 l.edge l.has) l.plain)
-
-        still : turning place ≡ None
-        still = none_is (turning place) looping.0
-
-        more : (v : Edge) × Has (edges place) v × ((is_plain nt.LaterSpecifier v && eqb v.next place) ≡ true)
-        more = some_of (λ v. is_plain nt.LaterSpecifier v && eqb v.next place) (edges place) looping.1
-
-        edge : Edge
-        edge = more.0
-
-        facts : (is_plain nt.LaterSpecifier edge ≡ true) × (eqb edge.next place ≡ true)
-        facts = and_parts (is_plain nt.LaterSpecifier edge) (eqb edge.next place) more.2
-
-        next_is : edge.next ≡ place
-        next_is = eqb-true edge.next place facts.1
-
-        behind : Path (At cs h) h cs place s mid (end p) (l.part ∷ l.rest) z i.state
-        behind = (
-          edge,
-          l.kind,
-          l.after,
-          more.1,
-          plain_write cs nt.LaterSpecifier h edge l.kind s mid l.part l.after facts.0 ((later_kind h l.kind l.part l.after l.at l.begins, l.at.1, all_open cs nt.LaterSpecifier s (start l.part) open_later), l.begins),
-          subst (λ (v : ℕ). Path (At cs h) h cs (turn v l.kind) l.after (end l.part) (end p) l.rest z i.state) (sym next_is) l.path,
-        )
-
-        whole : Path (At cs h) h cs (home z) s from (end p) (f ∷ parts p) z i.state
-        whole = (
-          l.edge,
-          y,
-          s,
-          l.has,
-          plain_write cs nt.TypeSpecifier h l.edge y s from f s l.plain (first, starts),
-          subst (λ (v : ℕ). Path (At cs h) h cs v s (end f) (end p) (parts p) z i.state) (sym (turn_none place y still))
-              (subst (λ (v : ℕ). Path (At cs h) h cs place s v (end p) (parts p) z i.state) (sym ends)
-              (subst (λ (v : List Tree). Path (At cs h) h cs place s mid (end p) v z i.state) (sym l.are) behind)),
-        )
-
-    -- what begins with them
-    record Longer (g : Nonterminal) (z : ℕ) (t : Tree) (w : Scope) : Type 0 where
-      tree : Tree
-      at : At cs (suc (suc h)) g z s tree w
-      begins : start tree ≡ from
-      same : end tree ≡ end t
-
-    outer : (g : Nonterminal) → every (λ v. leads d (home v)) (kinds g) ≡ true → shuns g ≡ None → (z : ℕ) (t : Tree) (w : Scope) → At cs (suc (suc h)) g z s t w → start t ≡ mid → Longer g z t w
-    outer g t' free z t w a e = record {
-      tree = u;
-      at = (a.0, kind_node cs (suc h) (name t) from (end t) (longer l.part ∷ l.rest) z s w i.state i.leaves i.ended whole, all_open cs g s (start u) free);
-      begins = ap (λ x. x.from) (rolled (name t) from (end t) (longer l.part ∷ l.rest));
-      same = ap (λ x. x.to) (rolled (name t) from (end t) (longer l.part ∷ l.rest));
-    }
-      where
-        i : Inside cs (suc h) z s t w
-        i = kind_of cs (suc h) z s t w a.1
-
-        l : Leads d (suc h) (home z) (end t) (parts t) z i.state
-        l = leads_by d (suc h) (home z) (end t) (parts t) z i.state (every_has (λ v. leads d (home v)) (kinds g) t' z a.0) (λ q. no_name z (name t) (subst (λ (v : ℕ). name_of v ≡ Some (name t)) (sym q) i.ended.0))
-            (subst (λ (n : ℕ). Path (At cs (suc h)) (suc h) cs (home z) s n (end t) (parts t) z i.state) e i.path)
-
-        u : Tree
-        u = node (name t) from (end t) (longer l.part ∷ l.rest)
-
-        made : out-Tree (longer l.part) ≡ record { rule = (name l.part).rule; choice = (name l.part).choice; from = from; to = end l.part; parts = f ∷ parts l.part }
-        made = rolled (name l.part) from (end l.part) (f ∷ parts l.part)
-
-        whole : Path (At cs (suc h)) (suc h) cs (home z) s from (end t) (longer l.part ∷ l.rest) z i.state
-        whole = (
-          l.edge,
-          l.kind,
-          l.after,
-          l.has,
-          plain_write cs d (suc h) l.edge l.kind s from (longer l.part) l.after l.plain (longer_is l.kind l.part l.after l.at l.begins, ap (λ x. x.from) made),
-          subst (λ (v : ℕ). Path (At cs (suc h)) (suc h) cs (turn l.edge.next l.kind) l.after v (end t) l.rest z i.state) (sym (ap (λ x. x.to) made)) l.path,
-        )
-
--- a type specifier that declares nothing
-module _ (cs : List Lexeme) (s : Scope) (h from mid : ℕ) (f : Found) (p : Parses cs h s nt.LaterTypeSpecifier from (Some f)) (e : f.scope ≡ s) where
-  specifier_later : At cs h nt.LaterTypeSpecifier f.place s f.tree s
-  specifier_later = (let found = p.found in (found.1, subst (λ (v : Scope). Kind cs h f.place s f.tree v) e found.0.kind, subst (Opened cs nt.LaterTypeSpecifier s) (sym found.2) found.3))
-
-  specifier_first : At cs h nt.TypeSpecifier f.place s f.tree s
-  specifier_first = (
-    kind_has f.place (kinds nt.TypeSpecifier) (every_has (λ y. kind_in y (kinds nt.TypeSpecifier)) (kinds nt.LaterTypeSpecifier) first_checked f.place specifier_later.0),
-    specifier_later.1,
-    all_open cs nt.TypeSpecifier s (start f.tree) open_type,
-  )
-
-  specifier_starts : start f.tree ≡ from
-  specifier_starts = (let found = p.found in found.2)
-
-  -- begins no label
-  specifier_opens : Opened cs nt.BlockSpecifiers s from
-  specifier_opens = λ c token bar. (
-      let o = first_class cs h nt.LaterTypeSpecifier f.place s f.tree s specifier_later in
-      let token' : class_at cs s from ≡ Some o.class = subst (λ (i : ℕ). class_at cs s i ≡ Some o.class) specifier_starts o.token in
-      let same : c ≡ o.class = some_is (sym token ∙ token') in
-      not_use (among o.class (barred (shuns nt.BlockSpecifiers)))
-      (every_has (λ k. not (among k (barred (shuns nt.BlockSpecifiers)))) (firsts nt.LaterTypeSpecifier) labels_checked o.class o.begins)
-      (has_among o.class (barred (shuns nt.BlockSpecifiers)) (subst (Has (barred (shuns nt.BlockSpecifiers))) same bar)))
-
--- an external declaration with a type specifier before it
-pub external_joins : (cs : List Lexeme) (from mid : ℕ) (f : Found) → Parses cs 510 empty nt.LaterTypeSpecifier from (Some f) → f.scope ≡ empty → end f.tree ≡ mid
-    → (k : Class) × (class_at cs empty mid ≡ Some k) × Has tags k → (t : Tree) (w : Scope) → External cs empty mid t w → (u : Tree) × External cs empty from u w
-external_joins cs from mid f p e ends k t w = by_goal
+-- a type specifier that begins with a tag is one that may stand behind others
+later_type : (cs : List Lexeme) (h y : ℕ) (s : Scope) (at : ℕ) (p : Tree) (w : Scope) (k : Class) → class_at cs s at ≡ Some k → Has tags k → At cs h nt.TypeSpecifier y s p w → start p ≡ at
+    → At cs h nt.LaterSpecifier y s p w
+later_type cs h y s at p w k token t a e = (
+  elim (or_cases (kind_in y (kinds nt.LaterSpecifier)) (kind_in y (kinds nt.TypedefName)) (every_has (λ v. kind_in v (kinds nt.LaterSpecifier) || kind_in v (kinds nt.TypedefName)) (kinds nt.TypeSpecifier) types_checked y a.0)) [
+    | inl x ↦ kind_has y (kinds nt.LaterSpecifier) x
+    | inr x ↦ absurd (not_name x)
+  ],
+  a.1,
+  all_open cs nt.LaterSpecifier s (start p) open_later,
+)
   where
-    longer_whole : (g : Nonterminal) → every c_outer (kinds g) ≡ true → shuns g ≡ None → SpansFrom g cs empty mid t w → (u : Tree) × SpansFrom g cs empty from u w
+    not_name : kind_in y (kinds nt.TypedefName) ≡ true → ⊥
+    not_name x =
+        let f = first_here cs h s nt.TypedefName at y p w (kind_has y (kinds nt.TypedefName) x, a.1, all_open cs nt.TypedefName s (start p) open_name) e in
+        let same : f.0 ≡ k = some_is (sym f.1 ∙ token) in
+        not_use (among k (firsts nt.TypedefName)) (every_has (λ c. not (among c (firsts nt.TypedefName))) tags names_checked k t)
+        (has_among k (firsts nt.TypedefName) (subst (Has (firsts nt.TypedefName)) same f.2))
+
+tag_starts : (k : Class) → Has tags k → among k starts ≡ true
+tag_starts k t = member_left class_number k tags (firsts nt.OtherSpecifier) (has_among k tags t)
+
+other_starts : (k : Class) → Has (firsts nt.OtherSpecifier) k → among k starts ≡ true
+other_starts k t = member_right class_number k tags (firsts nt.OtherSpecifier) (has_among k (firsts nt.OtherSpecifier) t)
+
+-- no token of a list is there
+abbrev Quiet : List Lexeme → Scope → ℕ → Type 0
+Quiet cs s at = (k : Class) → class_at cs s at ≡ Some k → among k starts ≡ true → ⊥
+
+module _ (cs : List Lexeme) (h : ℕ) where
+  -- the token from which specifiers lead to a tag
+  led_starts : (a b : Scope) (at : ℕ) → Led cs h a b at → (k : Class) × (class_at cs b at ≡ Some k) × (among k starts ≡ true)
+  led_starts a b at (tag k token t) = (k, token, tag_starts k t)
+  led_starts a b at (other this that pa pb e l) =
+      let p = here cs h b nt.OtherSpecifier at that pb in
+      let f = first_here cs h b nt.OtherSpecifier at that.place that.tree that.scope p.0 p.1 in
+      (f.0, f.1, other_starts f.0 f.2)
+
+  -- the first part of specifiers, by the token with which it begins
+  first_part : (g : Nonterminal) (e : Edge) (q : ℕ) (s : Scope) (at to : ℕ) (p : Tree) (ps : List Tree) (z : ℕ) (v : Scope) (k : Class) → Has (edges q) e → class_at cs s at ≡ Some k → Begins e.before e.symbol k
+      → (path : Path (At cs h) h cs q s at to (p ∷ ps) z v) → path.0 ≡ e
+  first_part g e q s at to p ps z v k has token begins path =
+      let f = reads_first cs h path.0.before path.0.symbol path.1 s at p path.2 path.4 in
+      let same : f.class ≡ k = some_is (sym f.token ∙ token) in
+      one_edge q path.0 e k path.3 (subst (Begins path.0.before path.0.symbol) same f.begins) has begins
+
+  -- specifiers from where none was of a type are ones behind one of a type
+  shift : (a b : Scope) (at : ℕ) → Led cs h a b at → (to : ℕ) (ps : List Tree) (z : ℕ) (v : Scope) → Path (At cs h) h cs untyped b at to ps z v → Quiet cs v to → (rest : List Tree) × Path (At cs h) h cs typed a at to rest z v
+  shift a b at l to [] z v path quiet =
+      let k = led_starts a b at l in
+      absurd (quiet k.0 (subst (λ (i : ℕ). class_at cs v i ≡ Some k.0) path.0 (subst (λ (s : Scope). class_at cs s at ≡ Some k.0) path.2 k.1)) k.2)
+  shift a b at (tag k token t) to (p ∷ ps) z v path quiet =
+      let begins : Has (firsts nt.TypeSpecifier) k = among_has k (firsts nt.TypeSpecifier) (every_has (λ c. among c (firsts nt.TypeSpecifier)) tags tags_checked k t) in
+      let is = first_part nt.TypeSpecifier edge_type untyped b at to p ps z v k has_type token begins path in
+      let r : At cs h nt.TypeSpecifier path.1 b p path.2 × (start p ≡ at) = subst (λ (e : Edge). ReadsAfter (At cs h) h cs e.before e.symbol path.1 b at p path.2) is path.4 in
+      let rest : Path (At cs h) h cs (turn typed path.1) path.2 (end p) to ps z v = subst (λ (e : Edge). Path (At cs h) h cs (turn e.next path.1) path.2 (end p) to ps z v) is path.5 in
+      (p ∷ ps, (edge_later, path.1, path.2, has_later, (later_type cs h path.1 b at p path.2 k token t r.0 r.1, r.1), rest))
+  shift a b at (other this that pa pb e l) to (p ∷ ps) z v path quiet =
+      let x = here cs h a nt.OtherSpecifier at this pa in
+      let y = here cs h b nt.OtherSpecifier at that pb in
+      let f = first_here cs h b nt.OtherSpecifier at that.place that.tree that.scope y.0 y.1 in
+      let is = first_part nt.OtherSpecifier edge_other untyped b at to p ps z v f.0 has_other f.1 f.2 path in
+      let r : At cs h nt.OtherSpecifier path.1 b p path.2 × (start p ≡ at) = subst (λ (d : Edge). ReadsAfter (At cs h) h cs d.before d.symbol path.1 b at p path.2) is path.4 in
+      let same = pb.only p path.1 path.2 r.0 r.1 (λ k token has. none_in k (subst (λ (ks : List Class). Has ks k) others_stop has)) in
+      let rest : Path (At cs h) h cs untyped path.2 (end p) to ps z v
+      = subst (λ (q : ℕ). Path (At cs h) h cs q path.2 (end p) to ps z v) (turn_none untyped path.1 untyped_turns) (subst (λ (d : Edge). Path (At cs h) h cs (turn d.next path.1) path.2 (end p) to ps z v) is path.5) in
+      let rest' : Path (At cs h) h cs untyped that.scope (end this.tree) to ps z v
+      = subst (λ (s : Scope). Path (At cs h) h cs untyped s (end this.tree) to ps z v) (sym same.2)
+      (subst (λ (i : ℕ). Path (At cs h) h cs untyped path.2 i to ps z v) (sym (e ∙ ap end same.0)) rest) in
+      let more = shift this.scope that.scope (end this.tree) l to ps z v rest' quiet in (
+        this.tree ∷ more.0,
+        (
+          edge_later,
+          this.place,
+          this.scope,
+          has_later,
+          (later_other cs h this.place a this.tree this.scope x.0, x.1),
+          subst (λ (q : ℕ). Path (At cs h) h cs q this.scope (end this.tree) to more.0 z v) (sym (turn_none typed this.place typed_turns)) more.1,
+        ),
+      )
+    where
+      none_in : (k : Class) → Has [] k → ⊥
+      none_in k has = none_not has.1
+
+  -- from the first place on as from that behind others
+  to_untyped : (s : Scope) (at to : ℕ) (ps : List Tree) (z : ℕ) (v : Scope) → (begun ≡ z → ⊥) → Path (At cs h) h cs begun s at to ps z v → Path (At cs h) h cs untyped s at to ps z v
+  to_untyped s at to [] z v inner path = absurd (inner path.1)
+  to_untyped s at to (p ∷ ps) z v inner path = (path.0, path.1, path.2, subst (λ (es : List Edge). Has es path.0) same_edges path.3, path.4, path.5)
+
+-- ---- specifiers before others
+
+module _ (cs : List Lexeme) (h : ℕ) (s : Scope) (from mid : ℕ) (b : Before cs h s from mid) (d : Nonterminal) (fine : every c_specifiers (kinds d) ≡ true) (free : Opened cs d s from) where
+  record Longer (n : ℕ) (g : Nonterminal) (z : ℕ) (t : Tree) (w : Scope) : Type 0 where
+    tree : Tree
+    at : At cs n g z s tree w
+    begins : start tree ≡ from
+    same : end tree ≡ end t
+
+  longer : (z : ℕ) (p : Tree) (w : Scope) → At cs (suc h) d z s p w → start p ≡ mid → Quiet cs w (end p) → Longer (suc h) d z p w
+  longer z p w a e quiet = record {
+    tree = node (name p) from (end p) all.0;
+    at = (
+      a.0,
+      kind_node cs h (name p) from (end p) all.0 z s w i.state i.leaves i.ended (subst (λ (q : ℕ). Path (At cs h) h cs q s from (end p) all.0 z i.state) (sym place) all.1),
+      subst (Opened cs d s) (sym (ap (λ x. x.from) (rolled (name p) from (end p) all.0))) free,
+    );
+    begins = ap (λ x. x.from) (rolled (name p) from (end p) all.0);
+    same = ap (λ x. x.to) (rolled (name p) from (end p) all.0);
+  }
+    where
+      i : Inside cs h z s p w
+      i = kind_of cs h z s p w a.1
+
+      checked : (eqb (home z) begun ≡ true) × (not (scoped z) ≡ true)
+      checked = and_parts (eqb (home z) begun) (not (scoped z)) (every_has c_specifiers (kinds d) fine z a.0)
+
+      place : home z ≡ begun
+      place = eqb-true (home z) begun checked.0
+
+      state : w ≡ i.state
+      state = i.leaves ∙ ap (λ (c : Bool). leave c s i.state) (not_false (scoped z) checked.1)
+
+      inner : begun ≡ z → ⊥
+      inner q = no_name z (name p) (subst (λ (v : ℕ). name_of v ≡ Some (name p)) (sym (place ∙ q)) i.ended.0)
+
+      path : Path (At cs h) h cs begun s mid (end p) (parts p) z i.state
+      path = subst (λ (n : ℕ). Path (At cs h) h cs begun s n (end p) (parts p) z i.state) e (subst (λ (q : ℕ). Path (At cs h) h cs q s (start p) (end p) (parts p) z i.state) place i.path)
+
+      shifted : (rest : List Tree) × Path (At cs h) h cs typed b.after mid (end p) rest z i.state
+      shifted = shift cs h b.after s mid b.led (end p) (parts p) z i.state (to_untyped cs h s mid (end p) (parts p) z i.state inner path) (subst (λ (v : Scope). Quiet cs v (end p)) state quiet)
+
+      all : (front : List Tree) × Path (At cs h) h cs begun s from (end p) front z i.state
+      all = b.chain.joins (end p) shifted.0 z i.state shifted.1
+
+  -- what begins with them
+  outer : (g : Nonterminal) → every (λ v. leads d (home v)) (kinds g) ≡ true → shuns g ≡ None → (z : ℕ) (t : Tree) (w : Scope) → At cs (suc (suc h)) g z s t w → start t ≡ mid → Longer (suc (suc h)) g z t w
+  outer g fits open_g z t w a e = by_parts (parts t) (subst (λ (n : ℕ). Path (At cs (suc h)) (suc h) cs (home z) s n (end t) (parts t) z i.state) e i.path)
+    where
+      i : Inside cs (suc h) z s t w
+      i = kind_of cs (suc h) z s t w a.1
+
+      k : (c : Class) × (class_at cs s mid ≡ Some c) × (among c starts ≡ true)
+      k = led_starts cs h b.after s mid b.led
+
+      -- behind the specifiers no other ones begin
+      quiet_behind : (v : Edge) (y : ℕ) → is_quiet v ≡ true → (x : Scope) (at : ℕ) (ps : List Tree) → Path (At cs (suc h)) (suc h) cs (turn v.next y) x at (end t) ps z i.state → Quiet cs x at
+      quiet_behind v y q x at ps path =
+          let c = and_parts (not (is_some (name_of v.next))) (not (is_some (turning v.next)) && every (λ c. not (among c (entering v.next))) starts) q in
+          let r = and_parts (not (is_some (turning v.next))) (every (λ c. not (among c (entering v.next))) starts) c.1 in
+          by_rest ps (none_is (name_of v.next) c.0) r.1
+          (subst (λ (n : ℕ). Path (At cs (suc h)) (suc h) cs n x at (end t) ps z i.state) (turn_none v.next y (none_is (turning v.next) r.0)) path)
+        where
+          by_rest : (ps : List Tree) → name_of v.next ≡ None → every (λ c. not (among c (entering v.next))) starts ≡ true → Path (At cs (suc h)) (suc h) cs v.next x at (end t) ps z i.state → Quiet cs x at
+          by_rest [] unnamed still path = absurd (none_not (sym unnamed ∙ ap name_of path.1 ∙ i.ended.0))
+          by_rest (p ∷ ps) unnamed still path = λ c token start. (
+              let f = path_enters cs (suc h) v.next x at (end t) p ps z i.state path in
+              let same : f.class ≡ c = some_is (sym f.token ∙ token) in
+              not_use (among c (entering v.next)) (every_has (λ o. not (among o (entering v.next))) starts still c (among_has c starts start)) (enters_among v.next c (subst (Enters v.next) same f.begins)))
+
+      by_parts : (ps : List Tree) → Path (At cs (suc h)) (suc h) cs (home z) s mid (end t) ps z i.state → Longer (suc (suc h)) g z t w
+      by_parts [] path = absurd (no_name z (name t) (subst (λ (v : ℕ). name_of v ≡ Some (name t)) (sym path.1) i.ended.0))
+      by_parts (p ∷ ps) path =
+          let v = path.0 in
+          let f = reads_first cs (suc h) v.before v.symbol path.1 s mid p path.2 path.4 in
+          let same : f.class ≡ k.0 = some_is (sym f.token ∙ k.1) in
+          let meets = some_at (λ c. among c (beginners v.before v.symbol)) starts (among_has k.0 starts k.2).0 k.0 (among_has k.0 starts k.2).1
+          (begins_among v.before v.symbol k.0 (subst (Begins v.before v.symbol) same f.begins)) in
+          let both = and_parts (is_plain d v) (is_quiet v)
+          (when_use (some (λ c. among c (beginners v.before v.symbol)) starts) (is_plain d v && is_quiet v)
+          (every_has (λ o. when (some (λ c. among c (beginners o.before o.symbol)) starts) (is_plain d o && is_quiet o)) (edges (home z)) (every_has (λ o. leads d (home o)) (kinds g) fits z a.0) v path.3) meets) in
+          let plain = and_parts (not (is_some v.before)) (is_node d v.symbol) both.0 in
+          let r = plain_read cs d (suc h) v.before v.symbol path.1 s mid p path.2 plain.0 (node_of d v.symbol plain.1) path.4 in
+          let l = longer path.1 p path.2 r.0 r.1 (quiet_behind v path.1 both.1 path.2 (end p) ps path.5) in
+          let whole : Path (At cs (suc h)) (suc h) cs (home z) s from (end t) (l.tree ∷ ps) z i.state
+          = (
+            v,
+            path.1,
+            path.2,
+            path.3,
+            plain_write cs d (suc h) v.before v.symbol path.1 s from l.tree path.2 plain.0 (node_of d v.symbol plain.1) (l.at, l.begins),
+            subst (λ (n : ℕ). Path (At cs (suc h)) (suc h) cs (turn v.next path.1) path.2 n (end t) ps z i.state) (sym l.same) path.5,
+          ) in
+          record {
+            tree = node (name t) from (end t) (l.tree ∷ ps);
+            at = (a.0, kind_node cs (suc h) (name t) from (end t) (l.tree ∷ ps) z s w i.state i.leaves i.ended whole, all_open cs g s (start (node (name t) from (end t) (l.tree ∷ ps))) open_g);
+            begins = ap (λ x. x.from) (rolled (name t) from (end t) (l.tree ∷ ps));
+            same = ap (λ x. x.to) (rolled (name t) from (end t) (l.tree ∷ ps));
+          }
+
+-- an external declaration with specifiers before it
+pub external_joins : (cs : List Lexeme) (from mid : ℕ) → Before cs 510 empty from mid → (t : Tree) (w : Scope) → External cs empty mid t w → (u : Tree) × External cs empty from u w
+external_joins cs from mid b t w = by_goal
+  where
+    longer_whole : (g : Nonterminal) → every (λ z. leads nt.DeclarationSpecifiers (home z)) (kinds g) ≡ true → shuns g ≡ None → SpansFrom g cs empty mid t w → (u : Tree) × SpansFrom g cs empty from u w
     longer_whole g c o d =
         let a = of_derives g cs empty mid t w d in
-        let l = outer cs empty mid k.0 k.1 k.2 510 from f.tree f.place (specifier_first cs empty 510 from mid f p e) (specifier_starts cs empty 510 from mid f p e) ends nt.DeclarationSpecifiers specifiers_checked
-        (all_open cs nt.DeclarationSpecifiers empty from open_specifiers) g c o a.kind t w a.at a.from in
+        let l = outer cs 510 empty from mid b nt.DeclarationSpecifiers specifiers_checked (all_open cs nt.DeclarationSpecifiers empty from open_specifiers) g c o a.kind t w a.at a.from in
         (l.tree, to_derives g cs empty from l.tree w (record { kind = a.kind; at = l.at; from = l.begins; to = l.same ∙ a.to }))
 
     by_goal : External cs empty mid t w → (u : Tree) × External cs empty from u w
     by_goal (inl d) = (let l = longer_whole nt.FunctionDefinition definitions_checked open_definition d in (l.0, inl l.1))
     by_goal (inr d) = (let l = longer_whole nt.Declaration declarations_checked open_declaration d in (l.0, inr l.1))
 
--- an item of a block with one before it
-pub item_joins : (cs : List Lexeme) (s : Scope) (h from mid : ℕ) (f : Found) → Parses cs (h - 2) s nt.LaterTypeSpecifier from (Some f) → f.scope ≡ s → end f.tree ≡ mid
-    → (k : Class) × (class_at cs s mid ≡ Some k) × Has tags k → 2 ≤ h → Joins cs h s from mid
-item_joins cs s h from mid f p e ends k deep = record { class = k.0; token = k.1; tag = k.2; joins = λ t z w a b. longer_item t z w a b }
-  where
-    size : suc (suc (h - 2)) ≡ h
-    size = omega (arith, deep)
+-- an item of a block with specifiers before it
+pub item_joins : (cs : List Lexeme) (s : Scope) (h from mid : ℕ) → 2 ≤ h → Before cs (h - 2) s from mid → (t : Tree) (z : ℕ) (w : Scope) → At cs h nt.BlockItem z s t w → start t ≡ mid
+    → (u : Tree) × At cs h nt.BlockItem z s u w × (start u ≡ from)
+item_joins cs s h from mid deep b t z w a e =
+    let size : suc (suc (h - 2)) ≡ h = omega (arith, deep) in
+    let l = outer cs (h - 2) s from mid b nt.BlockSpecifiers block_checked b.chain.opened nt.BlockItem items_checked open_item z t w (subst (λ (n : ℕ). At cs n nt.BlockItem z s t w) (sym size) a) e in
+    (l.tree, subst (λ (n : ℕ). At cs n nt.BlockItem z s l.tree w) size l.at, l.begins)
 
-    longer_item : (t : Tree) (z : ℕ) (w : Scope) → At cs h nt.BlockItem z s t w → start t ≡ mid → (u : Tree) × At cs h nt.BlockItem z s u w × (start u ≡ from)
-    longer_item t z w a b =
-        let l = outer cs s mid k.0 k.1 k.2 (h - 2) from f.tree f.place (specifier_first cs s (h - 2) from mid f p e) (specifier_starts cs s (h - 2) from mid f p e) ends nt.BlockSpecifiers block_checked
-        (specifier_opens cs s (h - 2) from mid f p e) nt.BlockItem items_checked open_item z t w (subst (λ (n : ℕ). At cs n nt.BlockItem z s t w) (sym size) a) b in
-        (l.tree, subst (λ (n : ℕ). At cs n nt.BlockItem z s l.tree w) size l.at, l.begins)
+no_brace : every (λ v. not (eqb (class_number v) (class_number cl.RightBrace))) starts ≡ true
+unfolding firsts goal goals
+no_brace = refl
+
+-- it ends no block
+pub item_starts : (cs : List Lexeme) (h : ℕ) (s : Scope) (from mid : ℕ) → Before cs h s from mid → (k : Class) × (class_at cs s mid ≡ Some k) × (k ≡ cl.RightBrace → ⊥)
+item_starts cs h s from mid b = (
+  k.0,
+  k.1,
+  λ e. not_use (eqb (class_number k.0) (class_number cl.RightBrace)) (every_has (λ v. not (eqb (class_number v) (class_number cl.RightBrace))) starts no_brace k.0 (among_has k.0 starts k.2))
+      (eq-eqb (class_number k.0) (class_number cl.RightBrace) (ap class_number e)),
+)
+  where
+    k : (c : Class) × (class_at cs s mid ≡ Some c) × (among c starts ≡ true)
+    k = led_starts cs h b.after s mid b.led
+
+-- ---- how they are read
+
+-- others than of types were read, from one token up to another
+pub record Others (cs : List Lexeme) (h : ℕ) (s : Scope) (from : ℕ) (after : Scope) (at : ℕ) : Type 0 where
+  pub opened : ((at ≡ from) × (after ≡ s)) ⊎ Opened cs nt.BlockSpecifiers s from
+  pub joins : (to : ℕ) (p : Tree) (ps : List Tree) (z : ℕ) (v : Scope) → Path (At cs h) h cs untyped after at to (p ∷ ps) z v → (all : List Tree) × Path (At cs h) h cs begun s from to all z v
+
+module _ (cs : List Lexeme) (h : ℕ) (s : Scope) (from : ℕ) where
+  pub no_others : (after : Scope) → after ≡ s → Others cs h s from after from
+  no_others after e = record {
+    opened = inl (refl, e);
+    joins = λ to p ps z v path. (
+      p ∷ ps,
+      (
+        path.0,
+        path.1,
+        path.2,
+        subst (λ (es : List Edge). Has es path.0) (sym same_edges) path.3,
+        subst (λ (x : Scope). ReadsAfter (At cs h) h cs path.0.before path.0.symbol path.1 x from p path.2) e path.4,
+        path.5,
+      ),
+    );
+  }
+
+  -- a later specifier begins no label
+  opens : (after : Scope) (at : ℕ) (g : Nonterminal) (f : Found) → Parses cs h after g at (Some f) → every (λ y. kind_in y (kinds nt.LaterSpecifier)) (kinds g) ≡ true
+      → ((at ≡ from) × (after ≡ s)) ⊎ Opened cs nt.BlockSpecifiers s from → Opened cs nt.BlockSpecifiers s from
+  opens after at g f p t (inr o) = o
+  opens after at g f p t (inl e) = λ c token bar. (
+      let x = here cs h after g at f p in
+      let l : At cs h nt.LaterSpecifier f.place after f.tree f.scope
+      = (kind_has f.place (kinds nt.LaterSpecifier) (every_has (λ y. kind_in y (kinds nt.LaterSpecifier)) (kinds g) t f.place x.0.0), x.0.1, all_open cs nt.LaterSpecifier after (start f.tree) open_later) in
+      let k = first_here cs h after nt.LaterSpecifier at f.place f.tree f.scope l x.1 in
+      let token' : class_at cs s from ≡ Some k.0 = subst (λ (i : ℕ). class_at cs s i ≡ Some k.0) e.0 (subst (λ (v : Scope). class_at cs v at ≡ Some k.0) e.1 k.1) in
+      let same : c ≡ k.0 = some_is (sym token ∙ token') in
+      not_use (among k.0 (barred (shuns nt.BlockSpecifiers)))
+      (every_has (λ v. not (among v (barred (shuns nt.BlockSpecifiers)))) (firsts nt.LaterSpecifier) labels_checked k.0 k.2)
+      (has_among k.0 (barred (shuns nt.BlockSpecifiers)) (subst (Has (barred (shuns nt.BlockSpecifiers))) same bar)))
+
+  pub one_other : (after : Scope) (at : ℕ) (f : Found) → Others cs h s from after at → Parses cs h after nt.OtherSpecifier at (Some f) → Others cs h s from f.scope (end f.tree)
+  one_other after at f o p = record {
+    opened = inr (opens after at nt.OtherSpecifier f p others_checked o.opened);
+    joins = λ to q qs z v path. o.joins to f.tree (q ∷ qs) z v (
+      edge_other,
+      f.place,
+      f.scope,
+      has_other,
+      here cs h after nt.OtherSpecifier at f p,
+      subst (λ (n : ℕ). Path (At cs h) h cs n f.scope (end f.tree) to (q ∷ qs) z v) (sym (turn_none untyped f.place untyped_turns)) path,
+    );
+  }
+
+  pub one_type : (after : Scope) (at mid : ℕ) (f : Found) → Others cs h s from after at → Parses cs h after nt.LaterTypeSpecifier at (Some f) → end f.tree ≡ mid → Chain cs h s from mid f.scope
+  one_type after at mid f o p e =
+      let x = here cs h after nt.LaterTypeSpecifier at f p in
+      let first : At cs h nt.TypeSpecifier f.place after f.tree f.scope
+      = (kind_has f.place (kinds nt.TypeSpecifier) (every_has (λ y. kind_in y (kinds nt.TypeSpecifier)) (kinds nt.LaterTypeSpecifier) first_checked f.place x.0.0), x.0.1, all_open cs nt.TypeSpecifier after (start f.tree) open_type) in
+      record {
+        opened = opens after at nt.LaterTypeSpecifier f p later_checked o.opened;
+        joins = λ to ps z v path. o.joins to f.tree ps z v (
+          edge_type,
+          f.place,
+          f.scope,
+          has_type,
+          (first, x.1),
+          subst (λ (n : ℕ). Path (At cs h) h cs n f.scope (end f.tree) to ps z v) (sym (turn_none typed f.place typed_turns)) (subst (λ (n : ℕ). Path (At cs h) h cs typed f.scope n to ps z v) (sym e) path),
+        );
+      }
+
+pub led_here : (cs : List Lexeme) (h : ℕ) (a b : Scope) (at : ℕ) → a ≡ b → (k : Class) × (class_at cs b at ≡ Some k) × Has tags k → Led cs h a b at
+led_here cs h a b at e k = subst (λ (x : Scope). Led cs h x b at) (sym e) (tag k.0 k.1 k.2)

@@ -17,4 +17,4 @@ mod table;
 pub use expression::{
     ExprTree, Parsed, one_tree, parse, parse_expr, parse_external, parse_from, tree_or_none,
 };
-pub use specifiers::specifier_before;
+pub use specifiers::specifiers_before;

@@ -12,7 +12,7 @@ ghost use Rattle.cl_tree.specs.declared.grammar.Symbol.TheVariants.{Token, Entry
 ghost use Rattle.cl_expr.specs.code.Table as t;
 ghost use Rattle.cl_expr.specs.declared.table.Label.{Label};
 ghost use Rattle.cl_expr.specs.code.Paths.{At, Lost};
-ghost use Rattle.cl_expr.specs.code.Parses.{Parses, Nests, Part, Half, Builds, Ends, Stuck, Opens, Steps, Climbs, GoesOn, Sound, Begins, Enters, Joins, Dead};
+ghost use Rattle.cl_expr.specs.code.Parses.{Parses, Nests, Part, Half, Builds, Ends, Stuck, Opens, Steps, Climbs, GoesOn, Sound, Begins, Enters, Before, Chain, Dead, Led};
 
 use crate::places::{bar, corner, is_scoped, kinds, name_of, next_of, turn};
 use crate::same::same_scope;
@@ -125,14 +125,78 @@ impl<F: Fn(Global, &[Lexeme], &Scope, Nonterminal, u32, u32) -> Mem<Option<Found
         (self.parse)(self.alloc, self.tokens, scope, goal, self.depth, at)
     }
 
-    /// The type specifier with which an item of a block begins, if it is no typedef name.
-    fn type_specifier(&self, scope: &Scope, at: u32) -> Mem<Option<Found>>
+    /// A specifier there, of at most a height.
+    fn specifier(&self, scope: &Scope, goal: Nonterminal, high: u32, at: u32) -> Mem<Option<Found>>
         requires nests { Nests self.now.tokens.now self.now.depth (F.pre self.now.parse) (F.post self.now.parse) }
-        requires deep { 2 ≤ self.now.depth }
-        ensures { IfOk result (Parses self.now.tokens.now (self.now.depth - 2) scope.now nt.LaterTypeSpecifier at) }
+        requires high { high ≤ self.now.depth }
+        ensures { IfOk result (Parses self.now.tokens.now high scope.now goal at) }
     {
+        (self.parse)(self.alloc, self.tokens, scope, goal, high, at)
+    }
+
+    /// What is declared behind the specifiers that stand from one token up to another, the last one of a type and no other one.
+    fn specifiers(&self, scope: &Scope, high: u32, from: u32, to: u32) -> Mem<Option<Scope>>
+        requires nests { Nests self.now.tokens.now self.now.depth (F.pre self.now.parse) (F.post self.now.parse) }
+        requires high { high ≤ self.now.depth }
+        ensures { IfOk result (λ it. IfSome it (Chain self.now.tokens.now high scope.now from to)) }
+    {
+        let goal = Nonterminal::OtherSpecifier;
+        let mut after = scope.share(self.alloc)?;
+        let mut at = from;
+        while let Some(found) = self.specifier(&after, goal, high, at)? {
+            at = found.tree.to;
+            after = found.scope;
+        }
         let goal = Nonterminal::LaterTypeSpecifier;
-        (self.parse)(self.alloc, self.tokens, scope, goal, self.depth - 2, at)
+        let Some(last) = self.specifier(&after, goal, high, at)? else {
+            return Ok(None);
+        };
+        if last.tree.to == to {
+            Ok(Some(last.scope))
+        } else {
+            Ok(None)
+        }
+    }
+
+    /// Whether specifiers that are of no type stand at a token where one thing or another is declared, and behind them, where
+    /// both are the same, a structure, a union or an enumeration begins.
+    fn led(&self, these: Scope, those: &Scope, high: u32, from: u32) -> Mem<bool>
+        requires nests { Nests self.now.tokens.now self.now.depth (F.pre self.now.parse) (F.post self.now.parse) }
+        requires high { high ≤ self.now.depth }
+        ensures { IfOk result (λ led. led ≡ true → Led self.now.tokens.now high these those.now from) }
+    {
+        let goal = Nonterminal::OtherSpecifier;
+        let mut one = these;
+        let mut other = those.share(self.alloc)?;
+        let mut at = from;
+        while let Some(this) = self.specifier(&one, goal, high, at)? {
+            let Some(that) = self.specifier(&other, goal, high, at)? else {
+                return Ok(false);
+            };
+            if this.tree.to != that.tree.to {
+                return Ok(false);
+            }
+            at = this.tree.to;
+            one = this.scope;
+            other = that.scope;
+        }
+        let tag = tag_at(self.tokens, &other, at);
+        if !tag {
+            return Ok(false);
+        }
+        Ok(same_scope(&one, &other))
+    }
+
+    /// Whether what stands from one token up to another are specifiers that may stand before any that begin there.
+    pub fn stands_before(&self, scope: &Scope, high: u32, from: u32, to: u32) -> Mem<bool>
+        requires nests { Nests self.now.tokens.now self.now.depth (F.pre self.now.parse) (F.post self.now.parse) }
+        requires high { high ≤ self.now.depth }
+        ensures { IfOk result (λ stands. stands ≡ true → Before self.now.tokens.now high scope.now from to) }
+    {
+        let Some(after) = self.specifiers(scope, high, from, to)? else {
+            return Ok(false);
+        };
+        self.led(after, scope, high, to)
     }
 
     /// An item of a block, or what is none.
@@ -246,29 +310,8 @@ impl<F: Fn(Global, &[Lexeme], &Scope, Nonterminal, u32, u32) -> Mem<Option<Found
         }
     }
 
-    /// Whether just a type specifier that declares nothing stands from one token up to another, where a structure, a union or
-    /// an enumeration begins.
-    fn specifier_to(&self, scope: &Scope, from: u32, to: u32) -> Mem<bool>
-        requires nests { Nests self.now.tokens.now self.now.depth (F.pre self.now.parse) (F.post self.now.parse) }
-        requires deep { 2 ≤ self.now.depth }
-        ensures { IfOk result (λ stands. stands ≡ true → Joins self.now.tokens.now self.now.depth scope.now from to) }
-    {
-        let tag = tag_at(self.tokens, scope, to);
-        if !tag {
-            return Ok(false);
-        }
-        let Some(found) = self.type_specifier(scope, from)? else {
-            return Ok(false);
-        };
-        let same = same_scope(&found.scope, scope);
-        if !same {
-            return Ok(false);
-        }
-        Ok(found.tree.to == to)
-    }
-
     /// Whether an item of a block stands at an edge and none derives there, since none does where the bad one before it begins
-    /// and that is a type specifier which may stand before it.
+    /// and that are specifiers which may stand before it.
     fn is_dead(&self, scope: &Scope, edge: Edge, failed: u32, at: u32) -> Mem<bool>
         requires nests { Nests self.now.tokens.now self.now.depth (F.pre self.now.parse) (F.post self.now.parse) }
         requires none { failed < at → Parses self.now.tokens.now self.now.depth scope.now nt.BlockItem failed None }
@@ -281,18 +324,12 @@ impl<F: Fn(Global, &[Lexeme], &Scope, Nonterminal, u32, u32) -> Mem<Option<Found
         if !entry {
             return Ok(false);
         }
-        let stands = self.specifier_to(scope, failed, at)?;
+        let stands = self.stands_before(scope, self.depth - 2, failed, at)?;
         Ok(stands)
     }
 
     /// What stands at an edge, where no item of a block derives from an earlier token on.
-    fn part_after(
-        &self,
-        scope: Scope,
-        edge: Edge,
-        failed: u32,
-        at: u32,
-    ) -> Mem<Option<Found>>
+    fn part_after(&self, scope: Scope, edge: Edge, failed: u32, at: u32) -> Mem<Option<Found>>
         requires nests { Nests self.now.tokens.now self.now.depth (F.pre self.now.parse) (F.post self.now.parse) }
         requires none { failed < at → Parses self.now.tokens.now self.now.depth scope nt.BlockItem failed None }
         ensures { IfOk result (Part self.now.tokens.now self.now.depth scope edge.before edge.symbol at) }

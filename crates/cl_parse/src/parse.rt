@@ -16,7 +16,7 @@ use crate::extent::past_stop;
 use crate::item::Item;
 use crate::marks::Marks;
 use cl_base::{List, Mem, Memory, PpToken};
-use cl_expr::{Parsed, parse_external, specifier_before};
+use cl_expr::{Parsed, parse_external, specifiers_before};
 use cl_tree::{Change, Lexeme, NameSet, Scope, bad_extent, brackets, learned, lexemes_to};
 use std::alloc::Global;
 
@@ -256,7 +256,7 @@ fn failing(alloc: Global, reading: &Reading, past: u32, to: usize) -> Mem<usize>
         return Ok(0);
     }
     let lexemes = &reading.ahead.as_slice()[..to];
-    let before = specifier_before(alloc, lexemes, reading.at as u32, past)?;
+    let before = specifiers_before(alloc, lexemes, reading.at as u32, past)?;
     if before { Ok(to) } else { Ok(0) }
 }
 

@@ -180,12 +180,37 @@ pub record Climbs (cs : List Lexeme) (h : ℕ) (sa : Scope) (g : Nonterminal) (f
   pub found : IfSome r (λ f. Sound cs (suc h) sa f × (start f.tree ≡ start first.tree))
   pub only : (t : Tree) (z : ℕ) (w : Scope) → Spine cs h sa g first.tree first.place first.scope t z w → Has (kinds g) z → Stops cs w g (end t) → Gives r t z w
 
--- with what stands between two tokens before it, each item of a block that begins at the second is one from the first on
-pub record Joins (cs : List Lexeme) (h : ℕ) (s : Scope) (from mid : ℕ) : Type 0 where
-  pub class : Class
-  pub token : class_at cs s mid ≡ Some class
-  pub tag : Has tags class
-  pub joins : (t : Tree) (z : ℕ) (w : Scope) → At cs h nt.BlockItem z s t w → start t ≡ mid → (u : Tree) × At cs h nt.BlockItem z s u w × (start u ≡ from)
+-- the places of declaration specifiers: the first one, that behind others than of types, and that behind one of a type
+abbrev pub nth : List ℕ → ℕ → ℕ
+nth [] i = 0
+nth (q ∷ qs) zero = q
+nth (q ∷ qs) (suc i) = nth qs i
+
+abbrev pub begun : ℕ
+begun = nth (openers nt.DeclarationSpecifiers) 0
+
+abbrev pub untyped : ℕ
+untyped = nth (kinds nt.DeclarationSpecifiers) 0
+
+abbrev pub typed : ℕ
+typed = nth (kinds nt.DeclarationSpecifiers) 1
+
+-- specifiers from one token up to another, the last one of a type, behind which others may go on; they begin no label
+pub record Chain (cs : List Lexeme) (h : ℕ) (s : Scope) (from mid : ℕ) (after : Scope) : Type 0 where
+  pub opened : Opened cs nt.BlockSpecifiers s from
+  pub joins : (to : ℕ) (ps : List Tree) (z : ℕ) (v : Scope) → Path (At cs h) h cs typed after mid to ps z v → (all : List Tree) × Path (At cs h) h cs begun s from to all z v
+
+-- from two states on the same specifiers that are of no type stand there, and then a structure, a union or an enumeration where both are the same
+pub data Led (cs : List Lexeme) (h : ℕ) : Scope → Scope → ℕ → Type 0 where
+  tag : {s : Scope} {at : ℕ} (k : Class) → class_at cs s at ≡ Some k → Has tags k → Led cs h s s at
+  other : {a b : Scope} {at : ℕ} (this that : Found) → Parses cs h a nt.OtherSpecifier at (Some this) → Parses cs h b nt.OtherSpecifier at (Some that) → end this.tree ≡ end that.tree
+      → Led cs h this.scope that.scope (end this.tree) → Led cs h a b at
+
+-- what stands between two tokens may stand before what begins at the second
+pub record Before (cs : List Lexeme) (h : ℕ) (s : Scope) (from mid : ℕ) : Type 0 where
+  pub after : Scope
+  pub chain : Chain cs h s from mid after
+  pub led : Led cs h after s mid
 
 -- an item of a block stands at an edge, and none derives there
 pub record Dead (cs : List Lexeme) (h : ℕ) (s : Scope) (e : Edge) (at : ℕ) : Type 0 where
