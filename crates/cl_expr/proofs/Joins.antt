@@ -1,6 +1,7 @@
 -- Declaration specifiers before others.
 use Rattle.std.proofs.Common.{◌≡◌, ℕ, zero, suc, ◌-◌, ◌≤◌, arith, List, [], ◌∷◌, ◌++◌, ◌⊎◌, inl, inr, refl, sym, ◌∙◌, ap, subst, length, Bool, true, false, not, ◌&&◌, ◌||◌}
-use Rattle.std.specs.Prelude.{Option, Some, None}
+use Rattle.std.specs.Prelude.{Option, Some, None, Result, Ok, Err, IfOk, IfSome}
+use Rattle.cl_base.specs.declared.memory.Memory.{Memory}
 use Rattle.std.proofs.Math.Dec.{eqb}
 use Rattle.std.proofs.lemmas.Bool.{eqb-true, eq-eqb, and_parts, or_cases, false≢true}
 use Rattle.cl_tree.specs.declared.class.Class.{Class}
@@ -23,7 +24,7 @@ use Rattle.cl_expr.specs.declared.reader.Found.{Found}
 use Rattle.cl_expr.specs.code.Table.{places, place, edges, name_of, turning, turn, turned, is_named, home, kinds, openers, firsts, goes, goal, goals, number, scoped, entry_classes}
 use Rattle.cl_expr.specs.code.Looks.{class_number}
 use Rattle.cl_expr.specs.code.Paths.{name, node, Ended, Reads, ReadsAfter, Path, Kind, At, Whole}
-use Rattle.cl_expr.specs.code.Parses.{Begins, Enters, Parses, Stops, Before, Chain, Led, tag, other, begun, typed, untyped, tags}
+use Rattle.cl_expr.specs.code.Parses.{Begins, Enters, Parses, Stops, Before, Chain, Led, of_type, other, begun, typed, untyped, type_words}
 use Rattle.cl_expr.proofs.All.{same_goal_is}
 use Rattle.cl_expr.proofs.Bars.{all_open}
 use Rattle.cl_expr.proofs.Bridge.{of_derives, to_derives, some_of}
@@ -33,7 +34,7 @@ use Rattle.cl_expr.proofs.Heights.{Inside, kind_of, of_kind, first_class, path_e
 
 -- what begins specifiers that may stand behind others
 abbrev starts : List Class
-starts = tags ++ firsts nt.OtherSpecifier
+starts = type_words ++ firsts nt.OtherSpecifier
 
 -- an edge that a nonterminal stands at, after nothing else
 abbrev is_node : Nonterminal → Symbol → Bool
@@ -113,13 +114,13 @@ types_checked : every (λ y. kind_in y (kinds nt.LaterSpecifier) || kind_in y (k
 unfolding kinds goal goals
 types_checked = refl
 
-names_checked : every (λ k. not (among k (firsts nt.TypedefName))) tags ≡ true
+names_checked : every (λ k. not (among k (firsts nt.TypedefName))) type_words ≡ true
 unfolding firsts goal goals
 names_checked = refl
 
-tags_checked : every (λ k. among k (firsts nt.TypeSpecifier)) tags ≡ true
+words_checked : every (λ k. among k (firsts nt.TypeSpecifier)) type_words ≡ true
 unfolding firsts goal goals
-tags_checked = refl
+words_checked = refl
 
 first_checked : every (λ y. kind_in y (kinds nt.TypeSpecifier)) (kinds nt.LaterTypeSpecifier) ≡ true
 unfolding kinds goal goals
@@ -216,8 +217,8 @@ later_other : (cs : List Lexeme) (h y : ℕ) (s : Scope) (p : Tree) (w : Scope) 
 later_other cs h y s p w a =
     (kind_has y (kinds nt.LaterSpecifier) (every_has (λ v. kind_in v (kinds nt.LaterSpecifier)) (kinds nt.OtherSpecifier) others_checked y a.0), a.1, all_open cs nt.LaterSpecifier s (start p) open_later)
 
--- a type specifier that begins with a tag is one that may stand behind others
-later_type : (cs : List Lexeme) (h y : ℕ) (s : Scope) (at : ℕ) (p : Tree) (w : Scope) (k : Class) → class_at cs s at ≡ Some k → Has tags k → At cs h nt.TypeSpecifier y s p w → start p ≡ at
+-- a type specifier that is no typedef name may stand behind others
+later_type : (cs : List Lexeme) (h y : ℕ) (s : Scope) (at : ℕ) (p : Tree) (w : Scope) (k : Class) → class_at cs s at ≡ Some k → Has type_words k → At cs h nt.TypeSpecifier y s p w → start p ≡ at
     → At cs h nt.LaterSpecifier y s p w
 later_type cs h y s at p w k token t a e = (
   elim (or_cases (kind_in y (kinds nt.LaterSpecifier)) (kind_in y (kinds nt.TypedefName)) (every_has (λ v. kind_in v (kinds nt.LaterSpecifier) || kind_in v (kinds nt.TypedefName)) (kinds nt.TypeSpecifier) types_checked y a.0)) [
@@ -232,23 +233,23 @@ later_type cs h y s at p w k token t a e = (
     not_name x =
         let f = first_here cs h s nt.TypedefName at y p w (kind_has y (kinds nt.TypedefName) x, a.1, all_open cs nt.TypedefName s (start p) open_name) e in
         let same : f.0 ≡ k = some_is (sym f.1 ∙ token) in
-        not_use (among k (firsts nt.TypedefName)) (every_has (λ c. not (among c (firsts nt.TypedefName))) tags names_checked k t)
+        not_use (among k (firsts nt.TypedefName)) (every_has (λ c. not (among c (firsts nt.TypedefName))) type_words names_checked k t)
         (has_among k (firsts nt.TypedefName) (subst (Has (firsts nt.TypedefName)) same f.2))
 
-tag_starts : (k : Class) → Has tags k → among k starts ≡ true
-tag_starts k t = member_left class_number k tags (firsts nt.OtherSpecifier) (has_among k tags t)
+type_starts : (k : Class) → Has type_words k → among k starts ≡ true
+type_starts k t = member_left class_number k type_words (firsts nt.OtherSpecifier) (has_among k type_words t)
 
 other_starts : (k : Class) → Has (firsts nt.OtherSpecifier) k → among k starts ≡ true
-other_starts k t = member_right class_number k tags (firsts nt.OtherSpecifier) (has_among k (firsts nt.OtherSpecifier) t)
+other_starts k t = member_right class_number k type_words (firsts nt.OtherSpecifier) (has_among k (firsts nt.OtherSpecifier) t)
 
 -- no token of a list is there
 abbrev Quiet : List Lexeme → Scope → ℕ → Type 0
 Quiet cs s at = (k : Class) → class_at cs s at ≡ Some k → among k starts ≡ true → ⊥
 
 module _ (cs : List Lexeme) (h : ℕ) where
-  -- the token from which specifiers lead to a tag
+  -- the token from which specifiers lead to one of a type
   led_starts : (a b : Scope) (at : ℕ) → Led cs h a b at → (k : Class) × (class_at cs b at ≡ Some k) × (among k starts ≡ true)
-  led_starts a b at (tag k token t) = (k, token, tag_starts k t)
+  led_starts a b at (of_type k token t) = (k, token, type_starts k t)
   led_starts a b at (other this that pa pb e l) =
       let p = here cs h b nt.OtherSpecifier at that pb in
       let f = first_here cs h b nt.OtherSpecifier at that.place that.tree that.scope p.0 p.1 in
@@ -267,8 +268,8 @@ module _ (cs : List Lexeme) (h : ℕ) where
   shift a b at l to [] z v path quiet =
       let k = led_starts a b at l in
       absurd (quiet k.0 (subst (λ (i : ℕ). class_at cs v i ≡ Some k.0) path.0 (subst (λ (s : Scope). class_at cs s at ≡ Some k.0) path.2 k.1)) k.2)
-  shift a b at (tag k token t) to (p ∷ ps) z v path quiet =
-      let begins : Has (firsts nt.TypeSpecifier) k = among_has k (firsts nt.TypeSpecifier) (every_has (λ c. among c (firsts nt.TypeSpecifier)) tags tags_checked k t) in
+  shift a b at (of_type k token t) to (p ∷ ps) z v path quiet =
+      let begins : Has (firsts nt.TypeSpecifier) k = among_has k (firsts nt.TypeSpecifier) (every_has (λ c. among c (firsts nt.TypeSpecifier)) type_words words_checked k t) in
       let is = first_part nt.TypeSpecifier edge_type untyped b at to p ps z v k has_type token begins path in
       let r : At cs h nt.TypeSpecifier path.1 b p path.2 × (start p ≡ at) = subst (λ (e : Edge). ReadsAfter (At cs h) h cs e.before e.symbol path.1 b at p path.2) is path.4 in
       let rest : Path (At cs h) h cs (turn typed path.1) path.2 (end p) to ps z v = subst (λ (e : Edge). Path (At cs h) h cs (turn e.next path.1) path.2 (end p) to ps z v) is path.5 in
@@ -512,5 +513,25 @@ module _ (cs : List Lexeme) (h : ℕ) (s : Scope) (from : ℕ) where
         );
       }
 
-pub led_here : (cs : List Lexeme) (h : ℕ) (a b : Scope) (at : ℕ) → a ≡ b → (k : Class) × (class_at cs b at ≡ Some k) × Has tags k → Led cs h a b at
-led_here cs h a b at e k = subst (λ (x : Scope). Led cs h x b at) (sym e) (tag k.0 k.1 k.2)
+-- more specifiers behind them
+pub one_later : (cs : List Lexeme) (h : ℕ) (s : Scope) (from mid : ℕ) (after : Scope) (f : Found) → Chain cs h s from mid after → Parses cs h after nt.LaterSpecifier mid (Some f) → Chain cs h s from (end f.tree) f.scope
+one_later cs h s from mid after f c p = record {
+  opened = c.opened;
+  joins = λ to ps z v path. c.joins to (f.tree ∷ ps) z v (
+    edge_later,
+    f.place,
+    f.scope,
+    has_later,
+    here cs h after nt.LaterSpecifier mid f p,
+    subst (λ (n : ℕ). Path (At cs h) h cs n f.scope (end f.tree) to ps z v) (sym (turn_none typed f.place typed_turns)) path,
+  );
+}
+
+pub chain_more : (cs : List Lexeme) (h : ℕ) (s : Scope) (from mid to : ℕ) (before : Scope) (r : Result (Option Scope) Memory)
+    → IfOk r (λ it. IfSome it (λ after. (x : Scope) (first : ℕ) → Chain cs h x first mid before → Chain cs h x first to after)) → Chain cs h s from mid before → IfOk r (λ it. IfSome it (Chain cs h s from to))
+chain_more cs h s from mid to before (Ok (Some after)) a c = a s from c
+chain_more cs h s from mid to before (Ok None) a c = tt
+chain_more cs h s from mid to before (Err e) a c = tt
+
+pub led_here : (cs : List Lexeme) (h : ℕ) (a b : Scope) (at : ℕ) → a ≡ b → (k : Class) × (class_at cs b at ≡ Some k) × Has type_words k → Led cs h a b at
+led_here cs h a b at e k = subst (λ (x : Scope). Led cs h x b at) (sym e) (of_type k.0 k.1 k.2)

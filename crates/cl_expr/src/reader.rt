@@ -1,12 +1,13 @@
 //! Reads the tree of any nonterminal of the table.
 
-ghost use Rattle.std.specs.Prelude.{◌≡◌, ◌<◌, ◌≤◌, ◌+◌, ◌-◌, ◌^◌, Some, None, true, false, IfOk, IfSome, length, slice_get, max, suc, [], ◌∷◌};
+ghost use Rattle.std.specs.Prelude.{ℕ, ◌≡◌, ◌<◌, ◌≤◌, ◌+◌, ◌-◌, ◌^◌, Some, None, true, false, IfOk, IfSome, length, slice_get, max, suc, [], ◌∷◌};
 ghost use Rattle.cl_tree.specs.Scopes as n;
 ghost use Rattle.cl_tree.specs.Derives.{Has, start, end, leaf, bad};
 ghost use Rattle.cl_tree.specs.declared.class.Class.{Class};
 ghost use Rattle.cl_tree.specs.declared.class.Class.TheVariants as cl;
 ghost use Rattle.cl_tree.specs.declared.nonterminal.Nonterminal.TheVariants as nt;
 ghost use Rattle.cl_tree.specs.declared.rule.Rule.TheVariants as ru;
+ghost use Rattle.cl_tree.specs.declared.scope.Scope.{Scope as TheScope};
 ghost use Rattle.cl_tree.specs.declared.tree.Tree.{out-Tree};
 ghost use Rattle.cl_tree.specs.declared.grammar.Symbol.TheVariants.{Token, Entry};
 ghost use Rattle.cl_expr.specs.code.Table as t;
@@ -16,7 +17,7 @@ ghost use Rattle.cl_expr.specs.code.Parses.{Parses, Nests, Part, Half, Builds, E
 
 use crate::places::{bar, corner, is_scoped, kinds, name_of, next_of, turn};
 use crate::same::same_scope;
-use crate::scan::{going, has_place, is_shunned, look, opening, same_class, tag_at, taken};
+use crate::scan::{going, has_place, is_shunned, is_type_at, look, opening, same_class, taken};
 use crate::table::Edge;
 use cl_base::{List, Mem};
 use cl_tree::{
@@ -134,7 +135,27 @@ impl<F: Fn(Global, &[Lexeme], &Scope, Nonterminal, u32, u32) -> Mem<Option<Found
         (self.parse)(self.alloc, self.tokens, scope, goal, high, at)
     }
 
-    /// What is declared behind the specifiers that stand from one token up to another, the last one of a type and no other one.
+    /// What is declared behind the specifiers that stand from one token up to another, where others stand before them.
+    fn later_specifiers(&self, before: Scope, high: u32, from: u32, to: u32) -> Mem<Option<Scope>>
+        requires nests { Nests self.now.tokens.now self.now.depth (F.pre self.now.parse) (F.post self.now.parse) }
+        requires high { high ≤ self.now.depth }
+        ensures { IfOk result (λ it. IfSome it (λ after. (s : TheScope) (first : ℕ) → Chain self.now.tokens.now high s first from before → Chain self.now.tokens.now high s first to after)) }
+    {
+        let goal = Nonterminal::LaterSpecifier;
+        let mut after = before;
+        let mut at = from;
+        while at < to {
+            let Some(found) = self.specifier(&after, goal, high, at)? else {
+                return Ok(None);
+            };
+            at = found.tree.to;
+            after = found.scope;
+        }
+        if at == to { Ok(Some(after)) } else { Ok(None) }
+    }
+
+    /// What is declared behind the specifiers that stand from one token up to another, of which one is of a type and no typedef
+    /// name.
     fn specifiers(&self, scope: &Scope, high: u32, from: u32, to: u32) -> Mem<Option<Scope>>
         requires nests { Nests self.now.tokens.now self.now.depth (F.pre self.now.parse) (F.post self.now.parse) }
         requires high { high ≤ self.now.depth }
@@ -148,18 +169,15 @@ impl<F: Fn(Global, &[Lexeme], &Scope, Nonterminal, u32, u32) -> Mem<Option<Found
             after = found.scope;
         }
         let goal = Nonterminal::LaterTypeSpecifier;
-        let Some(last) = self.specifier(&after, goal, high, at)? else {
+        let Some(typed) = self.specifier(&after, goal, high, at)? else {
             return Ok(None);
         };
-        if last.tree.to == to {
-            Ok(Some(last.scope))
-        } else {
-            Ok(None)
-        }
+        let next = typed.tree.to;
+        self.later_specifiers(typed.scope, high, next, to)
     }
 
     /// Whether specifiers that are of no type stand at a token where one thing or another is declared, and behind them, where
-    /// both are the same, a structure, a union or an enumeration begins.
+    /// both are the same, one of a type begins that is no typedef name.
     fn led(&self, these: Scope, those: &Scope, high: u32, from: u32) -> Mem<bool>
         requires nests { Nests self.now.tokens.now self.now.depth (F.pre self.now.parse) (F.post self.now.parse) }
         requires high { high ≤ self.now.depth }
@@ -180,8 +198,8 @@ impl<F: Fn(Global, &[Lexeme], &Scope, Nonterminal, u32, u32) -> Mem<Option<Found
             one = this.scope;
             other = that.scope;
         }
-        let tag = tag_at(self.tokens, &other, at);
-        if !tag {
+        let typed = is_type_at(self.tokens, &other, at);
+        if !typed {
             return Ok(false);
         }
         Ok(same_scope(&one, &other))

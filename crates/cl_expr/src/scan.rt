@@ -8,7 +8,7 @@ ghost use Rattle.cl_tree.specs.Derives.{Has};
 ghost use Rattle.cl_tree.specs.declared.class.Class.{Class};
 ghost use Rattle.cl_tree.specs.declared.class.Class.TheVariants as cl;
 ghost use Rattle.cl_expr.specs.code.Table as t;
-ghost use Rattle.cl_expr.specs.code.Parses.{Begins, Enters, GoesOn, GoesWith, tags};
+ghost use Rattle.cl_expr.specs.code.Parses.{Begins, Enters, GoesOn, GoesWith, type_words};
 
 use crate::looks::{edge_number, opener_number, suffix_number};
 use crate::places::{corner, edges, kinds, openers, shuns, suffixes};
@@ -91,12 +91,30 @@ pub fn is_brace(tokens: &[Lexeme], scope: &Scope, at: u32) -> bool
     }
 }
 
-/// Whether a structure, a union or an enumeration begins at a number.
-pub fn tag_at(tokens: &[Lexeme], scope: &Scope, at: u32) -> bool
-    ensures { result ≡ true → (k : Class) × (n.class_at tokens.now scope.now at ≡ Some k) × Has tags k }
+/// Whether a type specifier that is no typedef name begins at a number.
+pub fn is_type_at(tokens: &[Lexeme], scope: &Scope, at: u32) -> bool
+    ensures { result ≡ true → (k : Class) × (n.class_at tokens.now scope.now at ≡ Some k) × Has type_words k }
 {
     match class_at(tokens, scope, at) {
-        Some(class) => has_class(&[Class::Struct, Class::Union, Class::Enum], class),
+        Some(class) => has_class(
+            &[
+                Class::Void,
+                Class::Char,
+                Class::Short,
+                Class::Int,
+                Class::Long,
+                Class::Float,
+                Class::Double,
+                Class::Signed,
+                Class::Unsigned,
+                Class::Bool,
+                Class::AtomicParen,
+                Class::Struct,
+                Class::Union,
+                Class::Enum,
+            ],
+            class,
+        ),
         None => false,
     }
 }

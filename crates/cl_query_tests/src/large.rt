@@ -14,8 +14,9 @@ const DEPTH: usize = 60_000;
 /// How many structures stand one behind the other.
 const STRUCTURES: usize = 20_000;
 
-/// A structure without a `;`.
+/// A structure without a `;`, and one with other specifiers round it.
 const STRUCTURE: &[u8] = b"struct S { int a; }\n";
+const SPECIFIED: &[u8] = b"typedef int struct S { int a; } const\n";
 
 /// A function with its body, and an item that is none.
 const LINE: &[u8] = b"int a(int b) { return b; } +;\n";
@@ -55,8 +56,10 @@ fn bare_structures(rt: HostRuntime) -> Result<(), Memory> {
     let mut text = Vec::new(alloc);
     repeat(&mut text, STRUCTURE, STRUCTURES)?;
     repeat(&mut text, b"x +;\nint c;\n", 1)?;
+    repeat(&mut text, SPECIFIED, STRUCTURES)?;
+    repeat(&mut text, b"x +;\nint d;\n", 1)?;
     assert!(rt;
-        symbols_of(alloc, text)? == 1,
+        symbols_of(alloc, text)? == 2,
         "what stands behind them"
     );
     Ok(())
@@ -68,6 +71,8 @@ fn bare_structures_in_body(rt: HostRuntime) -> Result<(), Memory> {
     let mut text = Vec::new(alloc);
     repeat(&mut text, b"int a(int b) {\n", 1)?;
     repeat(&mut text, STRUCTURE, STRUCTURES)?;
+    repeat(&mut text, b"x +;\n", 1)?;
+    repeat(&mut text, SPECIFIED, STRUCTURES)?;
     repeat(&mut text, b"x +;\n}\nint c;\n", 1)?;
     assert!(rt;
         symbols_of(alloc, text)? == 2,

@@ -23,9 +23,10 @@ use Rattle.cl_expr.specs.code.Table.{edges, name_of, scoped, home, corner, kinds
 use Rattle.cl_tree.specs.Derives.{Has, start, end, parts, Opened}
 use Rattle.cl_expr.specs.code.Paths.{name, node, Ended, ReadsAfter, Path, Kind, At}
 
--- what begins a structure, a union or an enumeration
-abbrev pub tags : List Class
-tags = cl.Struct ∷ cl.Union ∷ cl.Enum ∷ []
+-- what begins a type specifier that is no typedef name
+abbrev pub type_words : List Class
+type_words =
+    cl.Void ∷ cl.Char ∷ cl.Short ∷ cl.Int ∷ cl.Long ∷ cl.Float ∷ cl.Double ∷ cl.Signed ∷ cl.Unsigned ∷ cl.Bool ∷ cl.AtomicParen ∷ cl.Struct ∷ cl.Union ∷ cl.Enum ∷ []
 
 abbrev pub AllOf : (Tree → Type 0) → List Tree → Type 0
 AllOf P [] = Unit {0}
@@ -195,14 +196,14 @@ untyped = nth (kinds nt.DeclarationSpecifiers) 0
 abbrev pub typed : ℕ
 typed = nth (kinds nt.DeclarationSpecifiers) 1
 
--- specifiers from one token up to another, the last one of a type, behind which others may go on; they begin no label
+-- specifiers from one token up to another, one of them of a type, behind which others may go on; they begin no label
 pub record Chain (cs : List Lexeme) (h : ℕ) (s : Scope) (from mid : ℕ) (after : Scope) : Type 0 where
   pub opened : Opened cs nt.BlockSpecifiers s from
   pub joins : (to : ℕ) (ps : List Tree) (z : ℕ) (v : Scope) → Path (At cs h) h cs typed after mid to ps z v → (all : List Tree) × Path (At cs h) h cs begun s from to all z v
 
--- from two states on the same specifiers that are of no type stand there, and then a structure, a union or an enumeration where both are the same
+-- from two states on the same specifiers that are of no type stand there, and then one of a type that is no typedef name, where both are the same
 pub data Led (cs : List Lexeme) (h : ℕ) : Scope → Scope → ℕ → Type 0 where
-  tag : {s : Scope} {at : ℕ} (k : Class) → class_at cs s at ≡ Some k → Has tags k → Led cs h s s at
+  of_type : {s : Scope} {at : ℕ} (k : Class) → class_at cs s at ≡ Some k → Has type_words k → Led cs h s s at
   other : {a b : Scope} {at : ℕ} (this that : Found) → Parses cs h a nt.OtherSpecifier at (Some this) → Parses cs h b nt.OtherSpecifier at (Some that) → end this.tree ≡ end that.tree
       → Led cs h this.scope that.scope (end this.tree) → Led cs h a b at
 

@@ -7,4 +7,4 @@ loop-other-preserved g c = λ l. c.loop-other.invariant (other c.in-Some.this c.
 
 pub returns : goal.returns
 returns g c = λ e. c.loop-other.invariant
-    (led_here c.args.self.now.tokens.now c.args.high c.loop-other.one c.loop-other.other c.loop-other.at (c.same_scope.ensures e) (c.tag_at-tag.ensures c.if-not-tag.false))
+    (led_here c.args.self.now.tokens.now c.args.high c.loop-other.one c.loop-other.other c.loop-other.at (c.same_scope.ensures e) (c.is_type_at-typed.ensures c.if-not-typed.false))
