@@ -1,5 +1,5 @@
 -- Each nonterminal has a tree from a token on, or it has none: what the parser finds with memory enough, step by step.
-use Rattle.std.proofs.Common.{◌≡◌, ℕ, zero, suc, ◌+◌, ◌-◌, ◌≤◌, ◌<◌, List, [], ◌∷◌, ◌++◌, ◌⊎◌, inl, inr, ⊎_elim, arith, refl, sym, ◌∙◌, ap, subst, length, max, Bool, true, false}
+use Rattle.std.proofs.Common.{◌≡◌, ℕ, zero, suc, ◌+◌, ◌≤◌, ◌<◌, List, [], ◌∷◌, ◌++◌, ◌⊎◌, inl, inr, ⊎_elim, arith, refl, sym, ◌∙◌, ap, subst, length, max, Bool, true, false}
 use Rattle.std.specs.Prelude.{Option, Some, None}
 use Rattle.std.proofs.lemmas.Bool.{cases_lt}
 use Rattle.cl_tree.specs.declared.class.Class.{Class}
@@ -20,10 +20,9 @@ use Rattle.cl_tree.specs.Grammar.{takes}
 use Rattle.cl_tree.specs.Derives.{Has, start, end, leaf, bad, Opened, SpansFrom, External}
 use Rattle.cl_tree.specs.BadItems.{closes_at, bad_end}
 use Rattle.cl_expr.specs.declared.table.Edge.{Edge}
-use Rattle.cl_expr.specs.declared.table.Head.{Head}
 use Rattle.cl_expr.specs.declared.table.Label.{Label}
 use Rattle.cl_expr.specs.declared.reader.Found.{Found}
-use Rattle.cl_expr.specs.code.Table.{edges, name_of, bars, scoped, turn, home, corner, kinds, openers, suffixes, past_else}
+use Rattle.cl_expr.specs.code.Table.{edges, name_of, bars, scoped, turn, home, kinds, openers, suffixes, past_else}
 use Rattle.cl_expr.specs.code.Paths.{node, Lost, At}
 use Rattle.cl_expr.specs.code.Parses.{Begins, Enters, Parses, Part, Half, Builds, Ends, Stuck, Opens, Sound, GoesOn, Steps, Climbs}
 use Rattle.cl_expr.proofs.Bridge.{to_derives, of_derives}
@@ -35,7 +34,7 @@ use Rattle.cl_expr.proofs.Within.{class_within}
 use Rattle.cl_expr.proofs.Reading.{Reading, reading_start, reading_stuck, reading_on, reading_builds, reading_some, nothing_stuck, barred_none, node_unnamed, node_ended, part_leaf, part_apart_leaf, part_flat, part_node, part_after, part_apart, entry_found, entry_past, entry_brace, entry_closed, entry_bad, entry_flat}
 use Rattle.cl_expr.proofs.Endings.{not_over, not_else}
 use Rattle.cl_expr.proofs.WithElse.{lost_stuck, lost_free, else_half, else_stuck, else_free, else_ends, past_mid}
-use Rattle.cl_expr.proofs.Climb.{Climbing, climbs_start, climbs_stuck, climbs_on, climbs_end, steps_none, steps_high, half_step, step_unnamed, steps_by, opens_past, opens_none, opens_by, half_start, start_unnamed, nothing_flat, parses_shunned, nothing_opens, parses_none, parses_other, parses_some, whole_found, whole_only}
+use Rattle.cl_expr.proofs.Climb.{Climbing, climbs_start, climbs_stuck, climbs_on, climbs_end, steps_high, half_step, step_unnamed, steps_by, opens_past, opens_none, opens_by, half_start, start_unnamed, nothing_flat, parses_shunned, nothing_opens, parses_none, parses_other, parses_some, whole_found, whole_only}
 
 -- the parser's answer, with what it says
 abbrev pub Answer : List Lexeme → ℕ → Scope → Nonterminal → ℕ → Type 0

@@ -1,10 +1,6 @@
 -- What is no item of a block, and what begins behind it.
-use Rattle.std.proofs.Common.{◌≡◌, ℕ, zero, suc, ◌+◌, ◌-◌, ◌≤◌, arith, List, [], ◌∷◌, ◌⊎◌, inl, inr, ⊎_elim, refl, sym, ◌∙◌, ap, subst, Bool, true, false, not}
+use Rattle.std.proofs.Common.{◌≡◌, ℕ, zero, suc, ◌+◌, ◌-◌, ◌≤◌, arith, List, [], inl, inr, ⊎_elim, refl, sym, ◌∙◌, ap, subst, Bool, true, false, not}
 use Rattle.std.specs.Prelude.{Option, Some, None}
-use Rattle.std.proofs.Math.Dec.{eqb}
-use Rattle.std.proofs.lemmas.Bool.{eq-eqb}
-use Rattle.cl_tree.specs.declared.class.Class.{Class}
-use Rattle.cl_tree.specs.declared.class.Class.TheVariants as cl
 use Rattle.cl_tree.specs.declared.nonterminal.Nonterminal.{Nonterminal}
 use Rattle.cl_tree.specs.declared.nonterminal.Nonterminal.TheVariants as nt
 use Rattle.cl_tree.specs.declared.grammar.Symbol.{Symbol}
@@ -15,16 +11,15 @@ use Rattle.cl_tree.specs.declared.rule.Rule.TheVariants as ru
 use Rattle.cl_tree.specs.declared.tree.Tree.{Tree, out-Tree, out-roll-Tree}
 use Rattle.cl_tree.specs.declared.lexeme.Lexeme.{Lexeme}
 use Rattle.cl_tree.specs.declared.scope.Scope.{Scope}
-use Rattle.cl_tree.specs.Scopes.{class_at, pass}
+use Rattle.cl_tree.specs.Scopes.{pass}
 use Rattle.cl_tree.specs.BadItems.{bad_end}
-use Rattle.cl_tree.specs.Derives.{Has, start, end, leaf, bad}
+use Rattle.cl_tree.specs.Derives.{Has, start, bad}
 use Rattle.cl_expr.specs.code.Table.{Place, places, place, nowhere, name_of}
-use Rattle.cl_expr.specs.code.Looks.{class_number}
-use Rattle.cl_expr.specs.code.Paths.{name, Reads, ReadsAfter, Kind, At}
+use Rattle.cl_expr.specs.code.Paths.{name, Reads, ReadsAfter, At}
 use Rattle.cl_expr.specs.code.Parses.{Parses, Before, Dead}
 use Rattle.cl_expr.specs.declared.table.Edge.{Edge}
 use Rattle.cl_expr.specs.declared.table.Label.{Label}
-use Rattle.cl_expr.proofs.Checks.{every, on_some, on_some_use, not_use, none_not, every_has}
+use Rattle.cl_expr.proofs.Checks.{on_some, on_some_use, not_use, none_not, every_has}
 use Rattle.cl_expr.proofs.Conditions.{every_place, numbers, either, entry_stops}
 use Rattle.cl_expr.proofs.Heights.{kind_of, kind_flat}
 use Rattle.cl_expr.proofs.Joins.{item_joins, item_starts}

@@ -1,5 +1,5 @@
 -- Declaration specifiers before others.
-use Rattle.std.proofs.Common.{◌≡◌, ℕ, zero, suc, ◌-◌, ◌≤◌, arith, List, [], ◌∷◌, ◌++◌, ◌⊎◌, inl, inr, refl, sym, ◌∙◌, ap, subst, length, Bool, true, false, not, ◌&&◌, ◌||◌}
+use Rattle.std.proofs.Common.{◌≡◌, ℕ, suc, ◌-◌, ◌≤◌, arith, List, [], ◌∷◌, ◌++◌, ◌⊎◌, inl, inr, refl, sym, ◌∙◌, ap, subst, Bool, true, false, not, ◌&&◌, ◌||◌}
 use Rattle.std.specs.Prelude.{Option, Some, None, Result, Ok, Err, IfOk, IfSome}
 use Rattle.cl_base.specs.declared.memory.Memory.{Memory}
 use Rattle.std.proofs.Math.Dec.{eqb}
@@ -23,11 +23,11 @@ use Rattle.cl_expr.specs.declared.table.Ways.{Ways}
 use Rattle.cl_expr.specs.declared.reader.Found.{Found}
 use Rattle.cl_expr.specs.code.Table.{places, place, edges, name_of, turning, turn, turned, is_named, home, kinds, openers, firsts, goes, goal, goals, number, scoped, entry_classes}
 use Rattle.cl_expr.specs.code.Looks.{class_number}
-use Rattle.cl_expr.specs.code.Paths.{name, node, Ended, Reads, ReadsAfter, Path, Kind, At, Whole}
-use Rattle.cl_expr.specs.code.Parses.{Begins, Enters, Parses, Stops, Before, Chain, Led, of_type, other, begun, typed, untyped, type_words}
+use Rattle.cl_expr.specs.code.Paths.{name, node, Ended, Reads, ReadsAfter, Path, Kind, At}
+use Rattle.cl_expr.specs.code.Parses.{Begins, Enters, Parses, Before, Chain, Led, of_type, other, begun, typed, untyped, type_words}
 use Rattle.cl_expr.proofs.All.{same_goal_is}
 use Rattle.cl_expr.proofs.Bars.{all_open}
-use Rattle.cl_expr.proofs.Bridge.{of_derives, to_derives, some_of}
+use Rattle.cl_expr.proofs.Bridge.{of_derives, to_derives}
 use Rattle.cl_expr.proofs.Checks.{every, some, member_left, member_right, when, when_use, is_some, not_use, not_false, none_is, none_not, some_is, every_has, some_at, member_has}
 use Rattle.cl_expr.proofs.Conditions.{among, among_has, beginners, begins_among, enters_among, entering, has_among, kind_in, no_name, one_edge, place_number}
 use Rattle.cl_expr.proofs.Heights.{Inside, kind_of, of_kind, first_class, path_enters, reads_first}

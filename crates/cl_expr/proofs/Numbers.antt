@@ -1,5 +1,5 @@
 -- The rows of numbers say what a token begins.
-use Rattle.std.proofs.Common.{◌≡◌, ℕ, zero, suc, ◌+◌, ◌-◌, List, [], ◌∷◌, ◌++◌, ◌⊎◌, inl, inr, map, arith, refl, sym, ◌∙◌, ap, subst, Bool, true, false, not, ◌&&◌, ◌||◌}
+use Rattle.std.proofs.Common.{◌≡◌, ℕ, zero, suc, ◌-◌, List, [], ◌∷◌, ◌++◌, ◌⊎◌, inl, inr, map, arith, refl, sym, ◌∙◌, ap, subst, Bool, true, false, not, ◌&&◌}
 use Rattle.std.specs.Prelude.{Option, Some, None, slice_get, IfSome}
 use Rattle.std.specs.Option.{option_map}
 use Rattle.std.proofs.Math.Dec.{eqb}
@@ -17,11 +17,11 @@ use Rattle.cl_tree.specs.Grammar.{takes}
 use Rattle.cl_tree.specs.Derives.{Has}
 use Rattle.cl_expr.specs.declared.table.Edge.{Edge}
 use Rattle.cl_expr.specs.declared.table.Head.{Head}
-use Rattle.cl_expr.specs.code.Table.{Place, Goal, places, goals, place, goal, place_of, goal_of, nowhere, nothing, number, edges, openers, suffixes, corner, firsts, entry_classes}
+use Rattle.cl_expr.specs.code.Table.{Place, Goal, places, goals, place, goal, place_of, goal_of, nothing, number, edges, openers, suffixes, corner, firsts, entry_classes}
 use Rattle.cl_expr.specs.code.Looks.{class_number, number_rows, place_numbers, opener_numbers, suffix_numbers, row_of, in_row, digit, number_at}
 use Rattle.cl_expr.specs.code.Parses.{BeginsSymbol, Begins, Enters, GoesOn, GoesWith}
 use Rattle.cl_expr.proofs.All.{all_classes, numbered_class, same_class_is}
-use Rattle.cl_expr.proofs.Checks.{every, every_at, every_member, member, has_member, some_is, none_not, not_use}
+use Rattle.cl_expr.proofs.Checks.{every, every_at, every_member, some_is, none_not, not_use}
 use Rattle.cl_expr.proofs.Conditions.{among, among_has, beginners, beginners_of, begins_among, entering, enters_among}
 
 -- each token of the lists has a number

@@ -1,6 +1,6 @@
 -- Every file has a list of items.
-use Rattle.std.proofs.Common.{◌≡◌, ◌⊎◌, ℕ, zero, suc, ◌+◌, ◌<◌, ◌≤◌, Bool, true, false, List, [], ◌∷◌, inl, inr, ⊎_elim, refl, sym, ◌∙◌, ap, subst, arith, length}
-use Rattle.std.proofs.lemmas.Bool.{cases_lt, and_parts, false≢true}
+use Rattle.std.proofs.Common.{◌≡◌, ◌⊎◌, ℕ, zero, suc, ◌+◌, ◌<◌, ◌≤◌, Bool, true, false, List, [], ◌∷◌, inl, inr, ⊎_elim, refl, sym, ◌∙◌, subst, arith, length}
+use Rattle.std.proofs.lemmas.Bool.{cases_lt, and_parts}
 use Rattle.std.specs.Prelude.{◌||◌, ◌&&◌, not}
 use Rattle.cl_base.specs.declared.token.PpToken.{PpToken}
 use Rattle.cl_tree.specs.Brackets.{bad_extent, brackets}

@@ -1,4 +1,4 @@
-use Rattle.std.proofs.Common.{◌≡◌, sym, ◌∙◌, arith}
+use Rattle.std.proofs.Common.{arith}
 use Rattle.cl_expr.proofs.Numbers.{edge_enters, edge_nowhere}
 use Rattle.cl_expr.proofs.scan.enters.Goals as goal
 

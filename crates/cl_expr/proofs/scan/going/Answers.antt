@@ -1,7 +1,4 @@
-use Rattle.std.proofs.Common.{◌≡◌, sym, ◌∙◌}
-use Rattle.cl_tree.specs.Derives.{Has}
-use Rattle.cl_expr.specs.code.Table.{suffixes}
-use Rattle.cl_expr.specs.code.Parses.{GoesOn, GoesWith}
+use Rattle.std.proofs.Common.{sym, ◌∙◌}
 use Rattle.cl_expr.proofs.Numbers.{with_on_some, on_with, on_past}
 use Rattle.cl_expr.proofs.scan.going.Goals as goal
 

@@ -1,7 +1,4 @@
-use Rattle.std.proofs.Common.{◌≡◌, ◌-◌, sym, ◌∙◌, subst, ap}
-use Rattle.std.specs.Prelude.{Some, slice_get, IfSome}
-use Rattle.cl_tree.specs.Derives.{Has}
-use Rattle.cl_expr.specs.declared.table.Edge.{Edge}
+use Rattle.std.proofs.Common.{sym, ◌∙◌}
 use Rattle.cl_expr.specs.code.Table.{edges}
 use Rattle.cl_expr.specs.code.Parses.{Begins}
 use Rattle.cl_expr.proofs.Numbers.{edge_there, edge_nowhere, at_some, at_not_none}

@@ -1,5 +1,4 @@
-use Rattle.std.proofs.Common.{◌≡◌, ◌-◌, sym, ◌∙◌}
-use Rattle.std.specs.Prelude.{Some, slice_get, IfSome}
+use Rattle.std.proofs.Common.{sym, ◌∙◌}
 use Rattle.cl_expr.specs.code.Table.{openers}
 use Rattle.cl_expr.specs.code.Parses.{Enters}
 use Rattle.cl_expr.proofs.Numbers.{opener_there, opener_nowhere, at_some, at_not_none}
