@@ -16,6 +16,7 @@ const STRUCTURES: usize = 20_000;
 
 /// A structure without a `;`, and one with other specifiers round it.
 const STRUCTURE: &[u8] = b"struct S { int a; }\n";
+
 const SPECIFIED: &[u8] = b"typedef int struct S { int a; } const\n";
 
 /// A function with its body, and an item that is none.
@@ -58,10 +59,7 @@ fn bare_structures(rt: HostRuntime) -> Result<(), Memory> {
     repeat(&mut text, b"x +;\nint c;\n", 1)?;
     repeat(&mut text, SPECIFIED, STRUCTURES)?;
     repeat(&mut text, b"x +;\nint d;\n", 1)?;
-    assert!(rt;
-        symbols_of(alloc, text)? == 2,
-        "what stands behind them"
-    );
+    assert!(rt; symbols_of(alloc, text)? == 2, "what stands behind them");
     Ok(())
 }
 
