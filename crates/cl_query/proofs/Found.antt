@@ -116,8 +116,7 @@ module _ (config : Settings) (headers : Headers) (path text : List ℕ) (first :
 
   pub needed : (done : PpDone) (path_of : List ℕ) (seen : List Dep) → IsHeaderMap headers → Came done (pp.Need path_of) → seen ≡ done.deps → FindsOver Symbols config headers path text (Need path_of seen)
   needed done path_of seen m w s =
-      let last : wanted done.deps ≡ Some path_of = needed_is path_of (wanted done.deps) done w.is in
-      (
+      let last : wanted done.deps ≡ Some path_of = needed_is path_of (wanted done.deps) done w.is in (
         λ others a. needs_of_symbols config others path text path_of (elsewhere done (pp.Need path_of) w others (subst (Agree (known_of others)) s a)),
         subst (Agree (known_of headers)) (sym s) (agrees done (pp.Need path_of) w),
         unknown_at headers path_of m (wanted_at (known_of headers) done.deps (length done.deps - 1) path_of (agrees done (pp.Need path_of) w) last),

@@ -35,7 +35,8 @@ fn many_headers_are_gone_over_once(rt: HostRuntime) -> Result<(), Memory> {
                 job = need.job;
                 job.number += 1;
                 job.mark += 2;
-                job.headers.put(alloc, need.path, found(alloc, header.as_str())?)?;
+                job.headers
+                    .put(alloc, need.path, found(alloc, header.as_str())?)?;
             }
             JobAnswer::Done(done) => {
                 assert_eq!(rt; names(alloc, &done.answer)?.as_str(), "last;");
@@ -69,13 +70,20 @@ fn kept_work_is_that_of_its_job(rt: HostRuntime) -> Result<(), Memory> {
         let JobAnswer::Need(need) = resume_job(alloc, job, &mut kept) else {
             return Err(Memory);
         };
-        assert_eq!(rt; need.path.text(), if first == one { "/b.h" } else { "/c.h" });
+        assert_eq!(rt;
+            need.path.text(),
+            if first == one { "/b.h" } else { "/c.h" }
+        );
         let known = headers(alloc, &[("/a.h", later), ("/b.h", "int b;"), ("/c.h", "")])?;
         let found = resume_job(alloc, job_of(alloc, other, known)?, &mut kept);
         assert_eq!(rt; names_of(alloc, found)?.as_str(), wanted, "at {other}");
         let known = headers(alloc, &[("/a.h", later), ("/b.h", "int b;"), ("/c.h", "")])?;
         let found = run_job(alloc, job_of(alloc, other, known)?);
-        assert_eq!(rt; names_of(alloc, found)?.as_str(), wanted, "from nothing at {other}");
+        assert_eq!(rt;
+            names_of(alloc, found)?.as_str(),
+            wanted,
+            "from nothing at {other}"
+        );
     }
     Ok(())
 }
