@@ -3,5 +3,3 @@
 
 #[cfg(test)]
 mod large;
-#[cfg(test)]
-mod resume;
