@@ -1,4 +1,6 @@
-"""Writes crates/cl_tree/src/spelling.rt and specs/Spellings.antt: the words and punctuators of the grammar."""
+"""Writes crates/cl_tree/src/spelling.rt and specs/Spellings.antt: the words and punctuators of the grammar; and src/slot.rt and
+specs/code/Slots.antt: where the code looks for a spelling."""
+import itertools
 from emit_tree import *
 KEY = "Sizeof Alignof Generic Default Case If Else Switch While Do For Goto Continue Break Return StaticAssert Typedef Extern Static ThreadLocal Auto Register Void Char Short Int Long Float Double Signed Unsigned Bool Struct Union Enum Const Restrict Volatile Atomic Inline Noreturn Alignas".split()
 TYPES = set("Typedef Extern Static ThreadLocal Auto Register Void Char Short Int Long Float Double Signed Unsigned Bool Struct Union Enum Const Restrict Volatile Atomic Inline Noreturn Alignas".split())
@@ -18,9 +20,13 @@ if __name__ == '__main__':
 ghost use Rattle.std.specs.Prelude.{◌≡◌, ℕ, Some, true, length, map, nat_eq, slice_get};
 ghost use Rattle.std.specs.Cmp.Lexicographic.{pointwise};
 ghost use Rattle.cl_tree.specs.Spellings as s;
+ghost use Rattle.cl_tree.specs.code.Slots as c;
+ghost use Rattle.cl_tree.specs.declared.class.Class.TheVariants as cl;
+ghost use Rattle.cl_tree.specs.declared.shape.Raw.TheVariants as raw;
 
 use crate::class::Class;
 use crate::shape::{Ahead, Raw, Sort};
+use crate::slot::{keyword_row, punctuator_row};
 use cl_base::{Kind, PpToken};
 
 /// A spelling, and what it stands for.
@@ -106,17 +112,30 @@ pub fn same_text(one: &[u8], other: &[u8]) -> bool
     one == other
 }
 
-/// What a spelling stands for in a table, or else this.
-fn find(table: &[Spelling], text: &[u8], other: Sort) -> Sort
-    ensures { result ≡ s.find (map s.plain table.now) text.now other }
+/// What a row of a table stands for, if it has this text; or else this.
+fn in_row(table: &[Spelling], row: usize, text: &[u8], other: Sort) -> Sort
+    ensures { result ≡ c.row_of (slice_get (map s.plain table.now) row) text.now other }
 {
-    for row in table {
-        let same = same_text(row.text, text);
-        if same {
-            return row.sort;
-        }
-    }
-    other
+    let Some(spelling) = table.get(row) else {
+        return other;
+    };
+    let same = same_text(spelling.text, text);
+    if same { spelling.sort } else { other }
+}
+
+/// What an identifier or a keyword is by itself, and to the one before it.
+fn word_sort(text: &[u8]) -> Sort
+    ensures { result ≡ s.find s.keywords text.now (s.sort raw.Word) }
+{
+    in_row(keywords(), keyword_row(text), text, plain(Raw::Word))
+}
+
+/// What a punctuator is by itself, and to the one before it.
+fn punctuator_sort(text: &[u8]) -> Sort
+    ensures { result ≡ s.find s.punctuators text.now (s.sort (raw.Plain cl.Other)) }
+{
+    let other = plain(Raw::Plain(Class::Other));
+    in_row(punctuators(), punctuator_row(text), text, other)
 }
 
 /// What a token is by itself, and to the one before it.
@@ -125,12 +144,12 @@ pub fn sort_of(token: &PpToken) -> Sort
     ensures { result ≡ s.sort_of token.now }
 {
     match token.kind {
-        Kind::Ident => find(keywords(), token.text.bytes(), plain(Raw::Word)),
+        Kind::Ident => word_sort(token.text.bytes()),
         Kind::Number => plain(Raw::Plain(Class::Constant)),
         Kind::Char => plain(Raw::Plain(Class::Constant)),
         Kind::Str => plain(Raw::Plain(Class::String)),
         Kind::Header => plain(Raw::Plain(Class::Other)),
-        Kind::Punct => find(punctuators(), token.text.bytes(), plain(Raw::Plain(Class::Other))),
+        Kind::Punct => punctuator_sort(token.text.bytes()),
         Kind::Other => plain(Raw::Plain(Class::Other)),
     }
 }
@@ -196,3 +215,121 @@ unfoldable pub sort_of : PpToken → Sort
 sort_of token = sort_by token.kind token.text
 '''
     w('specs/Spellings.antt', a)
+
+    # the slot of a text: its length, first and last byte by weights that give each text of a table a slot of its own, modulo 128
+    def slotted(texts):
+        for weights in itertools.product(range(1, 32), repeat=3):
+            slots = [sum(a * b for a, b in zip(weights, (len(x), x[0], x[-1]))) % 128 for x in texts]
+            if len(set(slots)) == len(slots):
+                return weights, [slots.index(k) if k in slots else 255 for k in range(128)]
+        raise SystemExit('no weights: take more slots')
+    (kw, kr), (pw, pr) = (slotted([x[0].encode() for x in rows]) for rows in (WORDS_, PUNCTS))
+    def filled(template, keyword_rows, punctuator_rows):
+        for name, value in [('KR', keyword_rows), ('PR', punctuator_rows)] + [(f'{x}{k}', '' if it == 1 else f' * {it}') for x, weights in (('K', kw), ('P', pw)) for k, it in enumerate(weights)]:
+            template = template.replace(f'@{name}@', str(value))
+        return template
+    def static(name, rows):
+        return f'static {name}: [u8; 128] = [\n' + ''.join('    ' + ', '.join(map(str, rows[k:k + 16])) + ',\n' for k in range(0, 128, 16)) + '];\n'
+    def listed(rows):
+        return ''.join('    ' + ' ∷ '.join(map(str, rows[k:k + 16])) + ' ∷\n' for k in range(0, 128, 16)) + '    []'
+    w('src/slot.rt', filled('''//! Where a table of spellings has a text, by its length, its first byte and its last one.
+
+ghost use Rattle.std.specs.Prelude.{◌≡◌, ◌<◌};
+ghost use Rattle.cl_tree.specs.code.Slots as s;
+
+/// The row of each slot among the keywords; 255 for none.
+@KR@
+/// The same among the punctuators.
+@PR@
+fn keyword_rows() -> &'static [u8]
+    ensures { result.now ≡ s.keyword_rows }
+{
+    &KEYWORD_ROWS
+}
+
+fn punctuator_rows() -> &'static [u8]
+    ensures { result.now ≡ s.punctuator_rows }
+{
+    &PUNCTUATOR_ROWS
+}
+
+/// The byte at a place; 0 past the end.
+fn byte_at(text: &[u8], at: usize) -> usize
+    ensures value { result ≡ s.byte_at text.now at }
+    ensures room { result < 256 }
+{
+    match text.get(at) {
+        Some(byte) => *byte as usize,
+        None => 0,
+    }
+}
+
+/// The row of a slot; 255 for none.
+fn row_at(rows: &[u8], slot: usize) -> usize
+    ensures { result ≡ s.row_at rows.now slot }
+{
+    match rows.get(slot) {
+        Some(row) => *row as usize,
+        None => 255,
+    }
+}
+
+/// The row of a text if it is a keyword; else any.
+pub fn keyword_row(text: &[u8]) -> usize
+    ensures { result ≡ s.row_at s.keyword_rows (s.keyword_slot text.now) }
+{
+    let first = byte_at(text, 0);
+    let last = byte_at(text, text.len().saturating_sub(1));
+    row_at(
+        keyword_rows(),
+        (text.len() % 128@K0@ + first@K1@ + last@K2@) % 128,
+    )
+}
+
+/// The row of a text if it is a punctuator; else any.
+pub fn punctuator_row(text: &[u8]) -> usize
+    ensures { result ≡ s.row_at s.punctuator_rows (s.punctuator_slot text.now) }
+{
+    let first = byte_at(text, 0);
+    let last = byte_at(text, text.len().saturating_sub(1));
+    row_at(
+        punctuator_rows(),
+        (text.len() % 128@P0@ + first@P1@ + last@P2@) % 128,
+    )
+}
+''', static('KEYWORD_ROWS', kr), static('PUNCTUATOR_ROWS', pr)))
+    w('specs/code/Slots.antt', filled('''-- Where the code looks for a spelling: each text of a table has a slot of its own there.
+use Rattle.std.specs.Prelude.{ℕ, ◌+◌, ◌-◌, ◌*◌, ◌%◌, List, [], ◌∷◌, Option, Some, None, slice_get, length, cond, nat_eq}
+use Rattle.std.specs.Cmp.Lexicographic.{pointwise}
+use Rattle.cl_tree.specs.declared.shape.Sort.{Sort}
+use Rattle.cl_tree.specs.Spellings.{Spelling}
+
+abbrev pub or_number : ℕ → Option ℕ → ℕ
+or_number n None = n
+or_number n (Some b) = b
+
+abbrev pub byte_at : List ℕ → ℕ → ℕ
+byte_at text i = or_number 0 (slice_get text i)
+
+abbrev pub row_at : List ℕ → ℕ → ℕ
+row_at rows i = or_number 255 (slice_get rows i)
+
+abbrev pub keyword_slot : List ℕ → ℕ
+keyword_slot text = (length text % 128@K0@ + byte_at text 0@K1@ + byte_at text (length text - 1)@K2@) % 128
+
+abbrev pub punctuator_slot : List ℕ → ℕ
+punctuator_slot text = (length text % 128@P0@ + byte_at text 0@P1@ + byte_at text (length text - 1)@P2@) % 128
+
+-- what a row stands for, if it is that of the text
+abbrev pub row_of : Option Spelling → List ℕ → Sort → Sort
+row_of None text other = other
+row_of (Some r) text other = cond (pointwise nat_eq r.text text) r.sort other
+
+unfoldable pub keyword_rows : List ℕ
+keyword_rows =
+@KR@
+
+unfoldable pub punctuator_rows : List ℕ
+punctuator_rows =
+@PR@
+''', listed(kr), listed(pr)))

@@ -1,6 +1,6 @@
 -- Texts whose lengths or first bytes differ are not one.
 use Rattle.std.proofs.Common.{arith, ◌≡◌, ℕ, suc, length, List, [], ◌∷◌, refl, sym, ◌∙◌, ap, Bool, true, false, ◌&&◌}
-use Rattle.std.specs.Prelude.{Option, Some, None, slice_get, nat_eq}
+use Rattle.std.specs.Prelude.{Some, None, slice_get, nat_eq}
 use Rattle.std.specs.Cmp.Lexicographic.{pointwise}
 
 some_is : {X : Type 0} {x y : X} → Some x ≡ Some y → x ≡ y

@@ -3,3 +3,4 @@ mod BadItems
 mod Firsts
 mod Frames
 mod Learning
+mod Slots

@@ -2,22 +2,22 @@
 use Rattle.std.specs.Prelude.{ℕ, ◌+◌, List, [], ◌∷◌, Option, Some, None, ◌++◌, slice_get, slice_range, length, Bool, false, ◌||◌, nat_eq, codes}
 use Rattle.std.specs.Cmp.Lexicographic.{pointwise}
 use Rattle.cl_base.specs.declared.token.PpToken.{PpToken}
-use Rattle.cl_tree.specs.declared.shape.Ahead.{Ahead}
-use Rattle.cl_tree.specs.declared.shape.Ahead.TheVariants as ahead
+use Rattle.cl_tree.specs.declared.class.Class.TheVariants as cl
+use Rattle.cl_tree.specs.declared.shape.Sort.{Sort}
 use Rattle.cl_tree.specs.declared.shape.Raw.{Raw}
 use Rattle.cl_tree.specs.declared.shape.Raw.TheVariants as raw
 use Rattle.cl_tree.specs.declared.lexeme.Lexeme.{Lexeme}
 use Rattle.cl_tree.specs.Brackets.{partner_by}
 use Rattle.cl_tree.specs.Shapes.{shape_of}
-use Rattle.cl_tree.specs.Spellings.{sort_of}
+use Rattle.cl_tree.specs.Spellings.{sort, sort_of}
 
-abbrev pub ahead_of : Option PpToken → Ahead
-ahead_of None = ahead.Other
-ahead_of (Some token) = (sort_of token).ahead
+abbrev pub sort_of_any : Option PpToken → Sort
+sort_of_any None = sort (raw.Plain cl.Other)
+sort_of_any (Some token) = sort_of token
 
--- what the token at a number is to the one before it
-abbrev pub ahead_at : List PpToken → ℕ → Ahead
-ahead_at tokens i = ahead_of (slice_get tokens i)
+-- what the token at a number is by itself, and to the one before it; past the end nothing that matters
+abbrev pub sort_at : List PpToken → ℕ → Sort
+sort_at tokens i = sort_of_any (slice_get tokens i)
 
 abbrev pub is_brace_of : Option PpToken → Bool
 is_brace_of None = false
@@ -42,7 +42,7 @@ typed_by _ typed = false
 -- a token, where it is said which names are typedef names before the first one, and these are the partners of the brackets
 abbrev pub lexeme_of : (List ℕ → Bool) → List ℕ → List PpToken → ℕ → PpToken → Lexeme
 lexeme_of typedefs pairs tokens i token = record {
-  shape = shape_of (sort_of token).raw (ahead_at tokens (i + 1)) (is_literal tokens pairs i);
+  shape = shape_of (sort_of token).raw (sort_at tokens (i + 1)).ahead (is_literal tokens pairs i);
   typed = typed_by (sort_of token).raw (typedefs token.text);
   partner = partner_by (slice_get pairs i);
   text = token.text;

@@ -8,3 +8,4 @@ pub mod Scopes
 pub mod Sets
 pub mod Shapes
 pub mod Spellings
+pub mod code

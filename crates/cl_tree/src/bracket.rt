@@ -1,8 +1,9 @@
 //! The partners of brackets.
 
-ghost use Rattle.std.specs.Prelude.{◌≡◌, ◌<◌, ◌≤◌, ◌^◌, Some, None, IfOk, length, slice_get, slice_set, nat_lt, ◌&&◌, ◌-◌};
+ghost use Rattle.std.specs.Prelude.{◌≡◌, ◌<◌, ◌≤◌, ◌^◌, Some, None, false, IfOk, length, slice_get, slice_set, nat_lt, ◌&&◌, ◌-◌};
 ghost use Rattle.cl_tree.specs.Brackets as b;
 ghost use Rattle.cl_tree.specs.Ends.{last};
+ghost use Rattle.cl_tree.specs.declared.bracket.Bracket.TheVariants as br;
 ghost use Rattle.cl_tree.specs.declared.bracket.Side.TheVariants as side;
 
 use crate::spelling::same_text;
@@ -41,14 +42,40 @@ pub struct Opened {
     pub side: Side,
 }
 
+/// Whether a text begins as a bracket does. Most punctuators don't.
+fn begins_as_bracket(text: &[u8]) -> bool
+    ensures { result ≡ false → b.bracket_by text.now ≡ br.None }
+{
+    match text.get(0) {
+        Some(byte) => matches!(
+            *byte,
+            b'(' | b')' | b'[' | b']' | b'{' | b'}' | b'<' | b':' | b'%'
+        ),
+        None => false,
+    }
+}
+
 /// What a token is to the brackets, by its spelling (N1570 6.4.6).
 fn bracket_of(token: &PpToken) -> Bracket
     ensures { result ≡ b.bracket_of token.now }
 {
-    let text = token.text.bytes();
     if !token.kind.is_punct() {
+        return Bracket::None;
+    }
+    let text = token.text.bytes();
+    let begins = begins_as_bracket(text);
+    if begins {
+        bracket_by(text)
+    } else {
         Bracket::None
-    } else if same_text(text, b"(".as_slice()) {
+    }
+}
+
+/// What a punctuator is to the brackets.
+fn bracket_by(text: &[u8]) -> Bracket
+    ensures { result ≡ b.bracket_by text.now }
+{
+    if same_text(text, b"(".as_slice()) {
         Bracket::Open(Side::Round)
     } else if same_text(text, b")".as_slice()) {
         Bracket::Close(Side::Round)
@@ -260,7 +287,13 @@ pub fn brackets(alloc: Global, tokens: &[PpToken]) -> Mem<List<u32>>
         if pairs.partners.len() > MOST {
             return Err(Memory);
         }
-        pairs = next(pairs, bracket_of(token))?;
+        match bracket_of(token) {
+            Bracket::None => {
+                let at = pairs.partners.len() as u32;
+                pairs.partners.push(at)?;
+            }
+            bracket => pairs = next(pairs, bracket)?,
+        }
     }
     let mut all = List::new(alloc);
     all.extend(pairs.partners.as_slice())?;

@@ -1,14 +1,17 @@
 //! Tokens as the grammar reads them.
 
-ghost use Rattle.std.specs.Prelude.{◌≡◌, ◌<◌, ◌≤◌, ◌^◌, IfOk, length, slice_get};
+ghost use Rattle.std.specs.Prelude.{◌≡◌, ◌<◌, ◌≤◌, ◌+◌, ◌^◌, IfOk, length, slice_get};
 ghost use Rattle.cl_tree.specs.Brackets as b;
 ghost use Rattle.cl_tree.specs.Lexemes as l;
 ghost use Rattle.cl_tree.specs.Sets.{has};
+ghost use Rattle.cl_tree.specs.Shapes as s;
+ghost use Rattle.cl_tree.specs.Spellings.{sort_of};
 
+use crate::class::Class;
 use crate::set::NameSet;
-use crate::shape::{Ahead, Raw, Shape, shape_of};
+use crate::shape::{Ahead, Raw, Shape, Sort, shape_of};
 use crate::spelling::sort_of;
-use cl_base::{Duplicate, List, Mem, Name, PpToken};
+use cl_base::{Duplicate, Mem, Name, PpToken};
 use std::alloc::Global;
 
 /// A token as the grammar reads it: its shape, whether it is an identifier that is a typedef name before the first token of its item, the
@@ -21,13 +24,16 @@ pub struct Lexeme {
     pub text: Name,
 }
 
-/// What the token at a number is to the one before it.
-fn ahead_at(tokens: &[PpToken], at: usize) -> Ahead
-    ensures { result ≡ l.ahead_at tokens.now at }
+/// What the token at a number is by itself, and to the one before it; past the end nothing that matters.
+fn sort_at(tokens: &[PpToken], at: usize) -> Sort
+    ensures { result ≡ l.sort_at tokens.now at }
 {
     match tokens.get(at) {
-        Some(token) => sort_of(token).ahead,
-        None => Ahead::Other,
+        Some(token) => sort_of(token),
+        None => Sort {
+            raw: Raw::Plain(Class::Other),
+            ahead: Ahead::Other,
+        },
     }
 }
 
@@ -52,6 +58,16 @@ fn is_literal(tokens: &[PpToken], pairs: &[u32], at: usize) -> bool
     }
 }
 
+/// The shape of the token at a number. Only at a `(` it matters what follows its partner.
+fn shape_at(tokens: &[PpToken], pairs: &[u32], raw: Raw, next: Ahead, at: usize) -> Shape
+    ensures { result ≡ s.shape_of raw next (l.is_literal tokens.now pairs.now at) }
+{
+    match raw {
+        Raw::Paren => shape_of(raw, next, is_literal(tokens, pairs, at)),
+        _ => shape_of(raw, next, false),
+    }
+}
+
 /// The partner of the token at a number; 0 past the end.
 fn partner_of(pairs: &[u32], at: usize) -> u32
     ensures { result ≡ b.partner_by (slice_get pairs.now at) }
@@ -72,7 +88,7 @@ fn is_typedef(typedefs: &NameSet, raw: Raw, text: &Name) -> bool
     }
 }
 
-/// A token as the grammar reads it.
+/// A token as the grammar reads it, by its sort and that of the next one.
 fn read_lexeme(
     alloc: Global,
     tokens: &[PpToken],
@@ -80,16 +96,14 @@ fn read_lexeme(
     typedefs: &NameSet,
     token: &PpToken,
     at: usize,
+    sort: Sort,
+    next: Sort,
 ) -> Mem<Lexeme>
-    requires { at < 2 ^ 32 }
+    requires sort { sort ≡ sort_of token.now }
+    requires next { next ≡ l.sort_at tokens.now (at + 1) }
     ensures { IfOk result (λ it. it ≡ l.lexeme_of (has typedefs.now) pairs.now tokens.now at token.now) }
 {
-    let sort = sort_of(token);
-    let shape = shape_of(
-        sort.raw,
-        ahead_at(tokens, at + 1),
-        is_literal(tokens, pairs, at),
-    );
+    let shape = shape_at(tokens, pairs, sort.raw, next.ahead, at);
     let typed = is_typedef(typedefs, sort.raw, &token.text);
     let text = token.text.duplicate(alloc)?;
     let partner = partner_of(pairs, at);
@@ -109,37 +123,42 @@ pub fn lexemes(
     tokens: &[PpToken],
     pairs: &[u32],
     typedefs: &NameSet,
-) -> Mem<List<Lexeme>>
+) -> Mem<Vec<Lexeme>>
     requires { length tokens.now < 2 ^ 32 }
-    ensures { IfOk result (λ all. all ≡ l.lexemes (has typedefs.now) pairs.now tokens.now) }
+    ensures { IfOk result (λ all. all.items ≡ l.lexemes (has typedefs.now) pairs.now tokens.now) }
 {
-    let mut all = List::new(alloc);
-    let mut at: usize = 0;
-    for token in tokens {
-        all.push(read_lexeme(alloc, tokens, pairs, typedefs, token, at)?)?;
-        at += 1;
-    }
-    Ok(all)
+    lexemes_to(
+        alloc,
+        Vec::new(alloc),
+        tokens,
+        pairs,
+        typedefs,
+        tokens.len(),
+    )
 }
 
 /// The tokens up to one, after those that were read before: these names are typedef names before the first of the others.
 pub fn lexemes_to(
     alloc: Global,
-    read: List<Lexeme>,
+    read: Vec<Lexeme>,
     tokens: &[PpToken],
     pairs: &[u32],
     typedefs: &NameSet,
     to: usize,
-) -> Mem<List<Lexeme>>
+) -> Mem<Vec<Lexeme>>
     requires short { length tokens.now < 2 ^ 32 }
-    requires from { length read ≤ to }
+    requires from { length read.items ≤ to }
     requires to { to ≤ length tokens.now }
-    ensures { IfOk result (λ all. all ≡ l.lexemes_to (has typedefs.now) pairs.now tokens.now read to) }
+    ensures { IfOk result (λ all. all.items ≡ l.lexemes_to (has typedefs.now) pairs.now tokens.now read.items to) }
 {
     let mut all = read;
     let mut at = all.len();
+    let mut sort = sort_at(tokens, at);
     for token in &tokens[at..to] {
-        all.push(read_lexeme(alloc, tokens, pairs, typedefs, token, at)?)?;
+        let next = sort_at(tokens, at + 1);
+        let lexeme = read_lexeme(alloc, tokens, pairs, typedefs, token, at, sort, next)?;
+        all.push(lexeme)?;
+        sort = next;
         at += 1;
     }
     Ok(all)

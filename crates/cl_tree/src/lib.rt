@@ -13,6 +13,7 @@ mod rule;
 mod scope;
 mod set;
 mod shape;
+mod slot;
 mod spelling;
 mod tree;
 

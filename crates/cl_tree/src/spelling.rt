@@ -3,9 +3,13 @@
 ghost use Rattle.std.specs.Prelude.{◌≡◌, ℕ, Some, true, length, map, nat_eq, slice_get};
 ghost use Rattle.std.specs.Cmp.Lexicographic.{pointwise};
 ghost use Rattle.cl_tree.specs.Spellings as s;
+ghost use Rattle.cl_tree.specs.code.Slots as c;
+ghost use Rattle.cl_tree.specs.declared.class.Class.TheVariants as cl;
+ghost use Rattle.cl_tree.specs.declared.shape.Raw.TheVariants as raw;
 
 use crate::class::Class;
 use crate::shape::{Ahead, Raw, Sort};
+use crate::slot::{keyword_row, punctuator_row};
 use cl_base::{Kind, PpToken};
 
 /// A spelling, and what it stands for.
@@ -189,17 +193,30 @@ pub fn same_text(one: &[u8], other: &[u8]) -> bool
     one == other
 }
 
-/// What a spelling stands for in a table, or else this.
-fn find(table: &[Spelling], text: &[u8], other: Sort) -> Sort
-    ensures { result ≡ s.find (map s.plain table.now) text.now other }
+/// What a row of a table stands for, if it has this text; or else this.
+fn in_row(table: &[Spelling], row: usize, text: &[u8], other: Sort) -> Sort
+    ensures { result ≡ c.row_of (slice_get (map s.plain table.now) row) text.now other }
 {
-    for row in table {
-        let same = same_text(row.text, text);
-        if same {
-            return row.sort;
-        }
-    }
-    other
+    let Some(spelling) = table.get(row) else {
+        return other;
+    };
+    let same = same_text(spelling.text, text);
+    if same { spelling.sort } else { other }
+}
+
+/// What an identifier or a keyword is by itself, and to the one before it.
+fn word_sort(text: &[u8]) -> Sort
+    ensures { result ≡ s.find s.keywords text.now (s.sort raw.Word) }
+{
+    in_row(keywords(), keyword_row(text), text, plain(Raw::Word))
+}
+
+/// What a punctuator is by itself, and to the one before it.
+fn punctuator_sort(text: &[u8]) -> Sort
+    ensures { result ≡ s.find s.punctuators text.now (s.sort (raw.Plain cl.Other)) }
+{
+    let other = plain(Raw::Plain(Class::Other));
+    in_row(punctuators(), punctuator_row(text), text, other)
 }
 
 /// What a token is by itself, and to the one before it.
@@ -208,16 +225,12 @@ pub fn sort_of(token: &PpToken) -> Sort
     ensures { result ≡ s.sort_of token.now }
 {
     match token.kind {
-        Kind::Ident => find(keywords(), token.text.bytes(), plain(Raw::Word)),
+        Kind::Ident => word_sort(token.text.bytes()),
         Kind::Number => plain(Raw::Plain(Class::Constant)),
         Kind::Char => plain(Raw::Plain(Class::Constant)),
         Kind::Str => plain(Raw::Plain(Class::String)),
         Kind::Header => plain(Raw::Plain(Class::Other)),
-        Kind::Punct => find(
-            punctuators(),
-            token.text.bytes(),
-            plain(Raw::Plain(Class::Other)),
-        ),
+        Kind::Punct => punctuator_sort(token.text.bytes()),
         Kind::Other => plain(Raw::Plain(Class::Other)),
     }
 }

@@ -41,7 +41,7 @@ pub fn external(alloc: Global, text: &[u8]) -> Mem<String> {
     let pairs = brackets(alloc, tokens.as_slice())?;
     let all = lexemes_to(
         alloc,
-        List::new(alloc),
+        Vec::new(alloc),
         tokens.as_slice(),
         pairs.as_slice(),
         &names,
@@ -64,7 +64,7 @@ pub fn after_external(alloc: Global, text: &[u8], from: u32) -> Mem<String> {
     let pairs = pairs.as_slice();
     let first = lexemes_to(
         alloc,
-        List::new(alloc),
+        Vec::new(alloc),
         tokens.as_slice(),
         pairs,
         &names,
