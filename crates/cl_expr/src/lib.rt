@@ -6,6 +6,7 @@ mod expression;
 mod goal_rows;
 mod look_rows;
 mod looks;
+mod node;
 mod place_rows;
 mod places;
 mod reader;

@@ -15,9 +15,9 @@ ghost use Rattle.cl_expr.specs.declared.table.Label.{Label};
 ghost use Rattle.cl_expr.specs.code.Paths.{At, Lost};
 ghost use Rattle.cl_expr.specs.code.Parses.{Parses, Nests, Part, Half, Builds, Ends, Stuck, Opens, Steps, Climbs, GoesOn, Sound, Begins, Enters, Before, Chain, Dead, Led};
 
-use crate::places::{bar, corner, is_scoped, kinds, name_of, next_of, turn};
-use crate::same::same_scope;
-use crate::scan::{going, has_place, is_shunned, is_type_at, look, opening, same_class, taken};
+use crate::node::{bad_tree, failed_at, is_entry, larger, leave, one, token_leaf};
+use crate::places::{bar, corner, kinds, name_of, next_of, turn};
+use crate::scan::{going, has_place, is_shunned, look, opening, same_class, taken};
 use crate::table::Edge;
 use cl_base::{List, Mem};
 use cl_tree::{
@@ -35,80 +35,6 @@ pub struct Found {
     pub height: u32,
 }
 
-fn larger(a: u32, b: u32) -> u32
-    ensures { result ≡ max a b }
-{
-    if a < b { b } else { a }
-}
-
-fn token_leaf(alloc: Global, at: u32) -> Tree
-    requires { at < 2 ^ 32 - 1 }
-    ensures { result ≡ leaf at }
-{
-    Tree {
-        rule: Rule::Token,
-        choice: 0,
-        from: at,
-        to: at + 1,
-        parts: List::new(alloc),
-    }
-}
-
-fn bad_tree(alloc: Global, from: u32, to: u32) -> Tree
-    ensures { result ≡ bad from to }
-{
-    Tree {
-        rule: Rule::Bad,
-        choice: 0,
-        from,
-        to,
-        parts: List::new(alloc),
-    }
-}
-
-fn one(alloc: Global, a: Tree) -> Mem<List<Tree>>
-    ensures { IfOk result (λ parts. parts ≡ a ∷ []) }
-{
-    let mut parts = List::new(alloc);
-    parts.push(a)?;
-    Ok(parts)
-}
-
-/// What is declared after a node that ends at a place: a block's names are gone.
-fn leave(alloc: Global, place: u16, before: &Scope, inside: Scope) -> Mem<Scope>
-    ensures { IfOk result (λ after. after ≡ n.leave (t.scoped place) before.now inside) }
-{
-    let scoped = is_scoped(place);
-    if scoped {
-        before.share(alloc)
-    } else {
-        Ok(inside)
-    }
-}
-
-/// Whether an item of a block stands at an edge, after nothing else.
-fn is_entry(edge: Edge) -> bool
-    ensures { result ≡ true → (edge.before ≡ None) × (edge.symbol ≡ Entry) }
-{
-    match edge.before {
-        Some(_) => false,
-        None => match edge.symbol {
-            Symbol::Entry => true,
-            Symbol::Token(_, _) | Symbol::Node(_) => false,
-        },
-    }
-}
-
-/// Where what is no item of a block begins; the end of any other tree.
-fn failed_at(tree: &Tree) -> u32
-    ensures { result < end tree.now → ((out-Tree tree.now).rule ≡ ru.Bad) × (result ≡ start tree.now) }
-{
-    match tree.rule {
-        Rule::Bad => tree.from,
-        _ => tree.to,
-    }
-}
-
 /// The productions, over a parser of nonterminals.
 #[derive(Clone, Copy)]
 pub struct Grammar<'a, F> {
@@ -124,97 +50,6 @@ impl<F: Fn(Global, &[Lexeme], &Scope, Nonterminal, u32, u32) -> Mem<Option<Found
         ensures { IfOk result (Parses self.now.tokens.now self.now.depth scope.now goal at) }
     {
         (self.parse)(self.alloc, self.tokens, scope, goal, self.depth, at)
-    }
-
-    /// A specifier there, of at most a height.
-    fn specifier(&self, scope: &Scope, goal: Nonterminal, high: u32, at: u32) -> Mem<Option<Found>>
-        requires nests { Nests self.now.tokens.now self.now.depth (F.pre self.now.parse) (F.post self.now.parse) }
-        requires high { high ≤ self.now.depth }
-        ensures { IfOk result (Parses self.now.tokens.now high scope.now goal at) }
-    {
-        (self.parse)(self.alloc, self.tokens, scope, goal, high, at)
-    }
-
-    /// What is declared behind the specifiers that stand from one token up to another, where others stand before them.
-    fn later_specifiers(&self, before: Scope, high: u32, from: u32, to: u32) -> Mem<Option<Scope>>
-        requires nests { Nests self.now.tokens.now self.now.depth (F.pre self.now.parse) (F.post self.now.parse) }
-        requires high { high ≤ self.now.depth }
-        ensures { IfOk result (λ it. IfSome it (λ after. (s : TheScope) (first : ℕ) → Chain self.now.tokens.now high s first from before → Chain self.now.tokens.now high s first to after)) }
-    {
-        let goal = Nonterminal::LaterSpecifier;
-        let mut after = before;
-        let mut at = from;
-        while at < to {
-            let Some(found) = self.specifier(&after, goal, high, at)? else {
-                return Ok(None);
-            };
-            at = found.tree.to;
-            after = found.scope;
-        }
-        if at == to { Ok(Some(after)) } else { Ok(None) }
-    }
-
-    /// What is declared behind the specifiers that stand from one token up to another, of which one is of a type and no typedef
-    /// name.
-    fn specifiers(&self, scope: &Scope, high: u32, from: u32, to: u32) -> Mem<Option<Scope>>
-        requires nests { Nests self.now.tokens.now self.now.depth (F.pre self.now.parse) (F.post self.now.parse) }
-        requires high { high ≤ self.now.depth }
-        ensures { IfOk result (λ it. IfSome it (Chain self.now.tokens.now high scope.now from to)) }
-    {
-        let goal = Nonterminal::OtherSpecifier;
-        let mut after = scope.share(self.alloc)?;
-        let mut at = from;
-        while let Some(found) = self.specifier(&after, goal, high, at)? {
-            at = found.tree.to;
-            after = found.scope;
-        }
-        let goal = Nonterminal::LaterTypeSpecifier;
-        let Some(typed) = self.specifier(&after, goal, high, at)? else {
-            return Ok(None);
-        };
-        let next = typed.tree.to;
-        self.later_specifiers(typed.scope, high, next, to)
-    }
-
-    /// Whether specifiers that are of no type stand at a token where one thing or another is declared, and behind them, where
-    /// both are the same, one of a type begins that is no typedef name.
-    fn led(&self, these: Scope, those: &Scope, high: u32, from: u32) -> Mem<bool>
-        requires nests { Nests self.now.tokens.now self.now.depth (F.pre self.now.parse) (F.post self.now.parse) }
-        requires high { high ≤ self.now.depth }
-        ensures { IfOk result (λ led. led ≡ true → Led self.now.tokens.now high these those.now from) }
-    {
-        let goal = Nonterminal::OtherSpecifier;
-        let mut one = these;
-        let mut other = those.share(self.alloc)?;
-        let mut at = from;
-        while let Some(this) = self.specifier(&one, goal, high, at)? {
-            let Some(that) = self.specifier(&other, goal, high, at)? else {
-                return Ok(false);
-            };
-            if this.tree.to != that.tree.to {
-                return Ok(false);
-            }
-            at = this.tree.to;
-            one = this.scope;
-            other = that.scope;
-        }
-        let typed = is_type_at(self.tokens, &other, at);
-        if !typed {
-            return Ok(false);
-        }
-        Ok(same_scope(&one, &other))
-    }
-
-    /// Whether what stands from one token up to another are specifiers that may stand before any that begin there.
-    pub fn stands_before(&self, scope: &Scope, high: u32, from: u32, to: u32) -> Mem<bool>
-        requires nests { Nests self.now.tokens.now self.now.depth (F.pre self.now.parse) (F.post self.now.parse) }
-        requires high { high ≤ self.now.depth }
-        ensures { IfOk result (λ stands. stands ≡ true → Before self.now.tokens.now high scope.now from to) }
-    {
-        let Some(after) = self.specifiers(scope, high, from, to)? else {
-            return Ok(false);
-        };
-        self.led(after, scope, high, to)
     }
 
     /// An item of a block, or what is none.
