@@ -8,3 +8,6 @@ pub mod BadEnds
 pub mod Unique
 pub mod Existing
 pub mod Read
+pub mod Anew
+pub mod Place
+pub mod Retyped

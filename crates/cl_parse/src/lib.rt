@@ -1,6 +1,7 @@
 //! The items of a file, and whether a file ends whole.
 #![tactic(auto)]
 
+mod ahead;
 mod extent;
 mod item;
 mod laws;

@@ -9,9 +9,11 @@ ghost use Rattle.cl_tree.specs.declared.scope.Scope.{Scope as TheScope};
 ghost use Rattle.cl_tree.specs.declared.tree.Tree.{Tree as TheTree};
 ghost use Rattle.cl_parse.specs.Extents.{Extent};
 ghost use Rattle.cl_parse.specs.Items.{IsProper, ItemTiles, ItemsOf};
+ghost use Rattle.cl_parse.specs.code.Ahead.{AreNamed, Covers};
 ghost use Rattle.cl_parse.specs.code.Marks.{AreMarks, Ends};
 ghost use Rattle.cl_parse.specs.code.Reading.{IsDead, IsExtended, IsNext, IsSettled, Reads, before};
 
+use crate::ahead::Places;
 use crate::extent::past_stop;
 use crate::item::Item;
 use crate::marks::Marks;
@@ -24,13 +26,15 @@ use std::alloc::Global;
 const MOST: usize = 0xffff_fffb;
 
 /// How far a file has been read: which names are typedef names before the token `at`, the tokens up to some place as the
-/// grammar reads them, those from `at` on with these names, and where the next item ends.
+/// grammar reads them, those from `at` on with these names, where the next item ends, and where identifiers stand among the
+/// tokens ahead.
 #[derive(Drop)]
 pub(crate) struct Reading {
     pub(crate) names: NameSet,
-    pub(crate) ahead: List<Lexeme>,
+    pub(crate) ahead: Vec<Lexeme>,
     pub(crate) at: usize,
     pub(crate) marks: Marks,
+    pub(crate) places: Places,
 }
 
 /// A next item, how far the file is read behind it, and an end up to which no external declaration derives from there on; 0
@@ -63,9 +67,10 @@ fn tiles(alloc: Global, tokens: &[PpToken], pairs: &List<u32>, typedefs: NameSet
     let mut items = List::new(alloc);
     let mut reading = Reading {
         names: typedefs,
-        ahead: List::new(alloc),
+        ahead: Vec::new(alloc),
         at: 0,
         marks: Marks::new(tokens, pairs.as_slice(), 0),
+        places: Places::new(alloc),
     };
     let mut dead = 0;
     while reading.at < tokens.len() {
@@ -128,9 +133,9 @@ fn extent_end(tokens: &[PpToken], pairs: &[u32], marks: Marks) -> usize
 /// The external declaration that the tokens from the next item on, up to one, derive as.
 fn external(alloc: Global, reading: &Reading, to: usize) -> Mem<Option<Parsed>>
     requires at { reading.now.at < 2 ^ 32 }
-    requires within { to ≤ length reading.now.ahead }
-    ensures found { IfOk result (λ it. IfSome it (λ r. External (take to reading.now.ahead) empty reading.now.at r.tree r.scope)) }
-    ensures only { IfOk result (λ it. (t : TheTree) (w : TheScope) → External (take to reading.now.ahead) empty reading.now.at t w → it ≡ Some (record { tree = t; scope = w })) }
+    requires within { to ≤ length reading.now.ahead.items }
+    ensures found { IfOk result (λ it. IfSome it (λ r. External (take to reading.now.ahead.items) empty reading.now.at r.tree r.scope)) }
+    ensures only { IfOk result (λ it. (t : TheTree) (w : TheScope) → External (take to reading.now.ahead.items) empty reading.now.at t w → it ≡ Some (record { tree = t; scope = w })) }
 {
     let lexemes = &reading.ahead.as_slice()[..to];
     let found = parse_external(alloc, lexemes, &Scope::new(alloc), reading.at as u32)?;
@@ -160,6 +165,7 @@ fn extended(
         ahead,
         at: reading.at,
         marks: reading.marks,
+        places: reading.places,
     })
 }
 
@@ -175,7 +181,7 @@ fn proper(
     requires room { length tokens.now < 2 ^ 32 - 4 }
     requires reads { Reads tokens.now pairs.now reading }
     requires is { IsProper tokens.now pairs.now (has reading.names) (before reading) parsed.tree parsed.scope }
-    requires within { to ≤ length reading.ahead }
+    requires within { to ≤ length reading.ahead.items }
     requires end { end parsed.tree ≡ to }
     requires some { reading.at < to }
     requires depth { Ends pairs.now (length tokens.now) reading.at to }
@@ -184,7 +190,7 @@ fn proper(
     let marks = reading.marks.moved(tokens, pairs, to);
     let Parsed { tree, scope } = parsed;
     let changes = scope.changes.as_slice();
-    let reading = settled(alloc, reading.names, reading.ahead, changes, to, marks)?;
+    let reading = settled(alloc, reading, changes, to, marks)?;
     Ok(Next {
         item: Item::Proper(tree),
         reading,
@@ -192,34 +198,53 @@ fn proper(
     })
 }
 
-/// What is read behind a proper item. Where it changes no names, the tokens ahead are as they were.
+/// What is read behind a proper item. Where it changes no names, the tokens ahead are as they were; else the names that it
+/// changes are told anew among them.
 fn settled(
     alloc: Global,
-    names: NameSet,
-    ahead: List<Lexeme>,
+    reading: Reading,
     changes: &[Change],
     to: usize,
     marks: Marks,
 ) -> Mem<Reading>
-    requires within { to ≤ length ahead }
-    ensures { IfOk result (IsSettled names ahead changes.now to marks) }
+    requires short { length reading.ahead.items < 2 ^ 32 }
+    requires within { to ≤ length reading.ahead.items }
+    requires named { AreNamed (has reading.names) reading.ahead.items to }
+    requires covers { Covers reading.places reading.ahead.items to }
+    ensures { IfOk result (IsSettled reading changes.now to marks) }
 {
     if changes.is_empty() {
         return Ok(Reading {
-            names,
-            ahead,
+            names: reading.names,
+            ahead: reading.ahead,
             at: to,
             marks,
+            places: reading.places,
         });
     }
-    let mut read = ahead;
-    read.truncate(to);
-    let names = learned(alloc, names, read.as_slice(), changes)?;
+    let names = learned(
+        alloc,
+        reading.names,
+        &reading.ahead.as_slice()[..to],
+        changes,
+    )?;
+    if reading.ahead.len() == to {
+        return Ok(Reading {
+            names,
+            ahead: reading.ahead,
+            at: to,
+            marks,
+            places: reading.places,
+        });
+    }
+    let places = reading.places.kept(alloc, reading.ahead.as_slice(), to)?;
+    let ahead = places.learned(alloc, &names, reading.ahead, changes, to)?;
     Ok(Reading {
         names,
-        ahead: read,
+        ahead,
         at: to,
         marks,
+        places,
     })
 }
 
@@ -250,7 +275,7 @@ fn passed(
 /// to there; else 0.
 fn failing(alloc: Global, reading: &Reading, past: u32, to: usize) -> Mem<usize>
     requires at { reading.now.at < 2 ^ 32 }
-    ensures { IfOk result (λ dead. past < dead → (dead ≡ to) × (dead ≤ length reading.now.ahead) × ((t : TheTree) (w : TheScope) → External (take dead reading.now.ahead) empty past t w → (u : TheTree) × External (take dead reading.now.ahead) empty reading.now.at u w)) }
+    ensures { IfOk result (λ dead. past < dead → (dead ≡ to) × (dead ≤ length reading.now.ahead.items) × ((t : TheTree) (w : TheScope) → External (take dead reading.now.ahead.items) empty past t w → (u : TheTree) × External (take dead reading.now.ahead.items) empty reading.now.at u w)) }
 {
     if past as usize >= to || to > reading.ahead.len() {
         return Ok(0);
@@ -267,8 +292,8 @@ fn bad(tokens: &[PpToken], pairs: &[u32], reading: Reading, to: u32, dead: usize
     requires reads { Reads tokens.now pairs.now reading }
     requires none { (t : TheTree) (w : TheScope) → IsProper tokens.now pairs.now (has reading.names) (before reading) t w → ⊥ }
     requires end { to ≡ bad_extent tokens.now pairs.now reading.at (length tokens.now) }
-    requires ahead { to ≤ length reading.ahead }
-    requires dead { to < dead → (dead ≤ length reading.ahead) × ((t : TheTree) (w : TheScope) → External (take dead reading.ahead) empty to t w → ⊥) }
+    requires ahead { to ≤ length reading.ahead.items }
+    requires dead { to < dead → (dead ≤ length reading.ahead.items) × ((t : TheTree) (w : TheScope) → External (take dead reading.ahead.items) empty to t w → ⊥) }
     ensures { IsNext tokens.now pairs.now reading result }
 {
     let marks = reading.marks.moved(tokens, pairs, to as usize);
@@ -279,6 +304,7 @@ fn bad(tokens: &[PpToken], pairs: &[u32], reading: Reading, to: u32, dead: usize
             ahead: reading.ahead,
             at: to as usize,
             marks,
+            places: reading.places,
         },
         dead,
     }

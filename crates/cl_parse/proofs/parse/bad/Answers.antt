@@ -28,4 +28,4 @@ returns c =
     let from = c.args.reading.at in
     let end : BadEnd tokens pairs from (length tokens) c.args.to = subst (BadEnd tokens pairs from (length tokens)) (sym c.requires.end) (bad_end tokens pairs from (length tokens)) in
     let bounds = bad_bounds tokens pairs from (length tokens) c.args.to c.requires.some end in
-    bad_next tokens pairs c.args.reading c.args.to c.moved-marks.result c.args.dead c.requires.reads c.requires.some bounds.more c.requires.ahead c.requires.end c.requires.none c.moved-marks.ensures.from c.moved-marks.ensures.marks c.requires.dead
+    bad_next tokens pairs c.args.reading c.moved-marks.result c.args.to c.args.dead c.requires.reads c.requires.some bounds.more c.requires.ahead c.requires.end c.requires.none c.moved-marks.ensures.from c.moved-marks.ensures.marks c.requires.dead

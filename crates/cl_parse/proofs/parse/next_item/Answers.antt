@@ -41,9 +41,9 @@ passed-requires-clause-none c = λ t w p. (
     let d = c.requires.dead (subst (λ (n : ℕ). reading.at < n) same more) in
     let q : IsProper tokens pairs (has reading.names) (before reading) t w =
     subst (λ (ps : List ℕ). IsProper tokens ps (has reading.names) (before reading) t w) (sym c.as_slice-partners.ensures.value) p in
-    let x = external_of tokens pairs reading to t w reads more (subst (λ (n : ℕ). n ≤ length reading.ahead) (sym same) d.0)
+    let x = external_of tokens pairs reading to t w reads more (subst (λ (n : ℕ). n ≤ length reading.ahead.items) (sym same) d.0)
     (subst (λ (n : ℕ). Extent tokens pairs n to) at c.extent_end-to.ensures.extent) q in
-    d.1 t w (subst (λ (n : ℕ). External (take n reading.ahead) empty reading.at t w) same x))
+    d.1 t w (subst (λ (n : ℕ). External (take n reading.ahead.items) empty reading.at t w) same x))
 
 pub passed-requires-in-None-clause-none : goal.passed-requires-in-None-clause-none
 passed-requires-in-None-clause-none c = λ t w p. (

@@ -33,8 +33,8 @@ bad-requires-clause-dead c = λ less. (
       e.1,
       λ t w x. (
           let u = e.2 t w x in
-          let y : External (take to read.ahead) empty read.at u.0 w = subst (λ (n : ℕ). External (take n read.ahead) empty read.at u.0 w) e.0 u.1 in
-          let p = proper_of tokens pairs read to u.0 w c.in_ok-read.ensures.reads (subst (λ (n : ℕ). n < to) at c.requires.more) (subst (λ (n : ℕ). n ≤ length read.ahead) e.0 e.1) extent y in
+          let y : External (take to read.ahead.items) empty read.at u.0 w = subst (λ (n : ℕ). External (take n read.ahead.items) empty read.at u.0 w) e.0 u.1 in
+          let p = proper_of tokens pairs read to u.0 w c.in_ok-read.ensures.reads (subst (λ (n : ℕ). n < to) at c.requires.more) (subst (λ (n : ℕ). n ≤ length read.ahead.items) e.0 e.1) extent y in
           let q : IsProper tokens c.args.pairs.now (has read.names) (before read) u.0 w = subst (λ (ps : List ℕ). IsProper tokens ps (has read.names) (before read) u.0 w) c.as_slice-partners.ensures.value p in
           c.requires.none u.0 w (subst (λ (r : List Lexeme). IsProper tokens c.args.pairs.now (has c.args.reading.names) r u.0 w) c.in_ok-read.ensures.before
           (subst (λ (s : NameSet). IsProper tokens c.args.pairs.now (has s) (before read) u.0 w) c.in_ok-read.ensures.names q))),

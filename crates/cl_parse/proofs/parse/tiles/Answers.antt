@@ -1,4 +1,4 @@
-use Rattle.std.proofs.Common.{◌≡◌, ◌≤◌, ◌++◌, ◌∷◌, [], ℕ, List, length, sym, subst, ap, ◌∙◌, append-nil, append_assoc, arith}
+use Rattle.std.proofs.Common.{◌≡◌, ◌≤◌, ◌++◌, ◌∷◌, [], ℕ, List, refl, length, sym, subst, ap, ◌∙◌, append-nil, append_assoc, arith}
 use Rattle.cl_tree.specs.Sets.{has}
 use Rattle.cl_parse.specs.Items.{ItemTiles}
 use Rattle.cl_parse.specs.code.Marks.{AreMarks}
@@ -11,7 +11,7 @@ pub loop-reading-init : goal.loop-reading-init
 loop-reading-init c =
     let marks = subst (λ (ps : List ℕ). AreMarks c.args.tokens.now ps c.new-2.result) c.as_slice.ensures.value c.new-2.ensures.marks in
     record {
-      reads = starts_reads c.args.tokens.now c.args.pairs.now c.args.typedefs c.new.result c.new-2.result c.new.ensures c.new-2.ensures.from marks;
+      reads = starts_reads c.args.tokens.now c.args.pairs.now (record { names = c.args.typedefs; ahead = c.new.result; at = 0; marks = c.new-2.result; places = c.new-3.result }) c.new.ensures.items refl c.new-3.ensures c.new-2.ensures.from marks;
       dead = λ less. absurd (omega (arith, less));
       tiles = λ rest t. rw c.new-items.ensures t;
     }
@@ -32,7 +32,7 @@ pub returns : goal.returns
 returns c =
     let reads = c.loop-reading.invariant.reads in
     let size : length (before c.loop-reading.reading) ≡ c.loop-reading.reading.at = before_length c.args.tokens.now c.args.pairs.now c.loop-reading.reading reads in
-    let within : c.loop-reading.reading.at ≤ length c.loop-reading.reading.ahead = reads.within in
-    let short : length c.loop-reading.reading.ahead ≤ length c.args.tokens.now = reads.short in
+    let within : c.loop-reading.reading.at ≤ length c.loop-reading.reading.ahead.items = reads.within in
+    let short : length c.loop-reading.reading.ahead.items ≤ length c.args.tokens.now = reads.short in
     let end : length c.args.tokens.now ≤ c.loop-reading.reading.at = c.loop-reading-test.false in
     subst (ItemTiles c.args.tokens.now c.args.pairs.now (has c.args.typedefs) []) (append-nil c.loop-reading.items) (c.loop-reading.invariant.tiles [] (omega arith))
