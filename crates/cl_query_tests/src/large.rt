@@ -14,6 +14,9 @@ const DEPTH: usize = 60_000;
 /// How many structures stand one behind the other.
 const STRUCTURES: usize = 20_000;
 
+/// How many names change behind an item that looks far.
+const NAMES: usize = 20_000;
+
 /// A structure without a `;`, and one with other specifiers round it.
 const STRUCTURE: &[u8] = b"struct S { int a; }\n";
 
@@ -79,6 +82,21 @@ fn bare_structures_in_body(rt: HostRuntime) -> Result<(), Memory> {
     Ok(())
 }
 
+/// Each `x = {}` is read up to the last `;`, and each function makes a typedef name a name like any other.
+#[test]
+fn names_change_ahead(rt: HostRuntime) -> Result<(), Memory> {
+    let alloc = rt.alloc();
+    let mut text = Vec::new(alloc);
+    numbered(alloc, &mut text, "typedef int T", ";\n")?;
+    numbered(alloc, &mut text, "x = {} int T", "() {}\n")?;
+    repeat(&mut text, b"T7 y;\n", 1)?;
+    assert!(rt;
+        symbols_of(alloc, text)? == 2 * NAMES,
+        "the names and the functions, and no object of a type that is none"
+    );
+    Ok(())
+}
+
 #[test]
 fn deep_invocations(rt: HostRuntime) -> Result<(), Memory> {
     let alloc = rt.alloc();
@@ -98,6 +116,15 @@ fn deep_invocations(rt: HostRuntime) -> Result<(), Memory> {
 fn repeat(text: &mut Vec<u8>, bytes: &[u8], count: usize) -> Mem<()> {
     for _ in 0..count {
         text.extend_from_slice(bytes)?;
+    }
+    Ok(())
+}
+
+/// Adds these bytes with each number between them.
+fn numbered(alloc: Global, text: &mut Vec<u8>, before: &str, after: &str) -> Mem<()> {
+    for number in 0..NAMES {
+        let line = format!(in alloc; "{before}{number}{after}")?;
+        text.extend_from_slice(line.as_bytes())?;
     }
     Ok(())
 }
