@@ -15,7 +15,7 @@ ghost use Rattle.cl_tree.specs.declared.tree.Tree.{Tree as TheTree};
 use crate::reader::tree_at;
 use crate::scan::is_brace;
 use cl_base::{Mem, Memory, PpToken};
-use cl_tree::{Lexeme, NameSet, Nonterminal, Scope, Tree, brackets, lexemes};
+use cl_tree::{Lexeme, NameSet, Nonterminal, SharedScope, Tree, brackets, lexemes};
 use std::alloc::Global;
 
 /// The tree of an expression.
@@ -28,7 +28,7 @@ const MOST: usize = 0xffff_fffb;
 #[derive(Drop)]
 pub struct Parsed {
     pub tree: Tree,
-    pub scope: Scope,
+    pub scope: SharedScope,
 }
 
 /// The one tree of a nonterminal on all of these tokens from one on, where this is declared before it. None exactly where no
@@ -36,7 +36,7 @@ pub struct Parsed {
 pub fn parse_from(
     alloc: Global,
     tokens: &[Lexeme],
-    scope: &Scope,
+    scope: &SharedScope,
     goal: Nonterminal,
     from: u32,
 ) -> Mem<Option<Parsed>>
@@ -60,7 +60,7 @@ pub fn parse_from(
 }
 
 /// Whether the last token is `}`.
-fn ends_with_brace(tokens: &[Lexeme], scope: &Scope) -> bool
+fn ends_with_brace(tokens: &[Lexeme], scope: &SharedScope) -> bool
     requires { length tokens.now < 2 ^ 32 }
     ensures yes { result ≡ true → class_at tokens.now scope.now (length tokens.now - 1) ≡ Some cl.RightBrace }
     ensures no { result ≡ false → class_at tokens.now scope.now (length tokens.now - 1) ≡ Some cl.RightBrace → ⊥ }
@@ -73,7 +73,7 @@ fn ends_with_brace(tokens: &[Lexeme], scope: &Scope) -> bool
 pub fn parse_external(
     alloc: Global,
     tokens: &[Lexeme],
-    scope: &Scope,
+    scope: &SharedScope,
     from: u32,
 ) -> Mem<Option<Parsed>>
     ensures found { IfOk result (λ it. IfSome it (λ r. External tokens.now scope.now from r.tree r.scope)) }
@@ -96,7 +96,7 @@ fn whole_tree(alloc: Global, tokens: &[Lexeme], goal: Nonterminal) -> Mem<Option
     ensures found { IfOk result (λ tree. IfSome tree (Spans goal tokens.now)) }
     ensures only { IfOk result (λ tree. (t : TheTree) → Spans goal tokens.now t → tree ≡ Some t) }
 {
-    let Some(reading) = parse_from(alloc, tokens, &Scope::new(alloc), goal, 0)? else {
+    let Some(reading) = parse_from(alloc, tokens, &SharedScope::new(), goal, 0)? else {
         return Ok(None);
     };
     Ok(Some(reading.tree))

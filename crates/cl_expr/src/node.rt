@@ -11,7 +11,7 @@ ghost use Rattle.cl_expr.specs.code.Table as t;
 use crate::places::is_scoped;
 use crate::table::Edge;
 use cl_base::{List, Mem};
-use cl_tree::{Rule, Scope, Symbol, Tree};
+use cl_tree::{Rule, SharedScope, Symbol, Tree};
 use std::alloc::Global;
 
 /// The larger of two heights.
@@ -58,15 +58,11 @@ pub fn one(alloc: Global, a: Tree) -> Mem<List<Tree>>
 }
 
 /// What is declared after a node that ends at a place: a block's names are gone.
-pub fn leave(alloc: Global, place: u16, before: &Scope, inside: Scope) -> Mem<Scope>
+pub fn leave(place: u16, before: &SharedScope, inside: SharedScope) -> Mem<SharedScope>
     ensures { IfOk result (λ after. after ≡ n.leave (t.scoped place) before.now inside) }
 {
     let scoped = is_scoped(place);
-    if scoped {
-        before.share(alloc)
-    } else {
-        Ok(inside)
-    }
+    if scoped { before.share() } else { Ok(inside) }
 }
 
 /// Whether an item of a block stands at an edge, after nothing else.

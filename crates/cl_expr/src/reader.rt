@@ -16,12 +16,12 @@ ghost use Rattle.cl_expr.specs.code.Paths.{At, Lost};
 ghost use Rattle.cl_expr.specs.code.Parses.{Parses, Nests, Part, Half, Builds, Ends, Stuck, Opens, Steps, Climbs, GoesOn, Sound, Begins, Enters, Before, Chain, Dead, Led};
 
 use crate::node::{bad_tree, failed_at, is_entry, larger, leave, one, token_leaf};
-use crate::places::{bar, corner, kinds, name_of, next_of, turn};
-use crate::scan::{going, has_place, is_shunned, look, opening, same_class, taken};
+use crate::places::{corner, kinds, name_of, next_of, turn};
+use crate::scan::{bars, dangling, going, has_place, is_shunned, look, opening, same_class, taken};
 use crate::table::Edge;
 use cl_base::{List, Mem};
 use cl_tree::{
-    Act, Class, Lexeme, Nonterminal, Rule, Scope, Separator, Symbol, Terminal, Tree, bad_end,
+    Act, Class, Lexeme, Nonterminal, Rule, Separator, SharedScope, Symbol, Terminal, Tree, bad_end,
     class_at, closes_at, pass,
 };
 use std::alloc::Global;
@@ -31,7 +31,7 @@ use std::alloc::Global;
 pub struct Found {
     pub tree: Tree,
     pub place: u16,
-    pub scope: Scope,
+    pub scope: SharedScope,
     pub height: u32,
 }
 
@@ -44,8 +44,11 @@ pub struct Grammar<'a, F> {
     pub parse: F,
 }
 
-impl<F: Fn(Global, &[Lexeme], &Scope, Nonterminal, u32, u32) -> Mem<Option<Found>>> Grammar<'_, F> {
-    fn nonterminal(&self, scope: &Scope, goal: Nonterminal, at: u32) -> Mem<Option<Found>>
+impl<F: Fn(Global, &[Lexeme], &SharedScope, Nonterminal, u32, u32) -> Mem<Option<Found>>> Grammar<
+    '_,
+    F,
+> {
+    fn nonterminal(&self, scope: &SharedScope, goal: Nonterminal, at: u32) -> Mem<Option<Found>>
         requires nests { Nests self.now.tokens.now self.now.depth (F.pre self.now.parse) (F.post self.now.parse) }
         ensures { IfOk result (Parses self.now.tokens.now self.now.depth scope.now goal at) }
     {
@@ -53,7 +56,7 @@ impl<F: Fn(Global, &[Lexeme], &Scope, Nonterminal, u32, u32) -> Mem<Option<Found
     }
 
     /// An item of a block, or what is none.
-    fn entry(&self, scope: Scope, at: u32) -> Mem<Option<Found>>
+    fn entry(&self, scope: SharedScope, at: u32) -> Mem<Option<Found>>
         requires nests { Nests self.now.tokens.now self.now.depth (F.pre self.now.parse) (F.post self.now.parse) }
         ensures { IfOk result (Part self.now.tokens.now self.now.depth scope None Entry at) }
     {
@@ -74,7 +77,7 @@ impl<F: Fn(Global, &[Lexeme], &Scope, Nonterminal, u32, u32) -> Mem<Option<Found
     }
 
     /// What is no item of a block.
-    fn bad_entry(&self, scope: Scope, at: u32) -> Mem<Option<Found>>
+    fn bad_entry(&self, scope: SharedScope, at: u32) -> Mem<Option<Found>>
         requires nests { Nests self.now.tokens.now self.now.depth (F.pre self.now.parse) (F.post self.now.parse) }
         requires some { 1 ≤ self.now.depth }
         requires none { Parses self.now.tokens.now self.now.depth scope nt.BlockItem at None }
@@ -95,7 +98,7 @@ impl<F: Fn(Global, &[Lexeme], &Scope, Nonterminal, u32, u32) -> Mem<Option<Found
     }
 
     /// The token that a terminal takes.
-    fn token(&self, scope: Scope, terminal: Terminal, act: Act, at: u32) -> Mem<Option<Found>>
+    fn token(&self, scope: SharedScope, terminal: Terminal, act: Act, at: u32) -> Mem<Option<Found>>
         requires nests { Nests self.now.tokens.now self.now.depth (F.pre self.now.parse) (F.post self.now.parse) }
         ensures { IfOk result (Part self.now.tokens.now self.now.depth scope None (Token terminal act) at) }
     {
@@ -109,7 +112,7 @@ impl<F: Fn(Global, &[Lexeme], &Scope, Nonterminal, u32, u32) -> Mem<Option<Found
         if !there {
             return Ok(None);
         }
-        let after = pass(self.tokens, scope, act, at)?;
+        let after = pass(self.alloc, self.tokens, scope, act, at)?;
         Ok(Some(Found {
             tree: token_leaf(self.alloc, at),
             place: 0,
@@ -119,7 +122,7 @@ impl<F: Fn(Global, &[Lexeme], &Scope, Nonterminal, u32, u32) -> Mem<Option<Found
     }
 
     /// What a symbol stands for.
-    fn symbol(&self, scope: Scope, symbol: Symbol, at: u32) -> Mem<Option<Found>>
+    fn symbol(&self, scope: SharedScope, symbol: Symbol, at: u32) -> Mem<Option<Found>>
         requires nests { Nests self.now.tokens.now self.now.depth (F.pre self.now.parse) (F.post self.now.parse) }
         ensures { IfOk result (Part self.now.tokens.now self.now.depth scope None symbol at) }
     {
@@ -133,7 +136,7 @@ impl<F: Fn(Global, &[Lexeme], &Scope, Nonterminal, u32, u32) -> Mem<Option<Found
     /// What a symbol stands for, after a separator.
     fn separated(
         &self,
-        scope: Scope,
+        scope: SharedScope,
         separator: Separator,
         symbol: Symbol,
         at: u32,
@@ -148,12 +151,12 @@ impl<F: Fn(Global, &[Lexeme], &Scope, Nonterminal, u32, u32) -> Mem<Option<Found
         if !there {
             return Ok(None);
         }
-        let after = pass(self.tokens, scope, separator.act, at)?;
+        let after = pass(self.alloc, self.tokens, scope, separator.act, at)?;
         self.symbol(after, symbol, at + 1)
     }
 
     /// What stands at an edge.
-    fn part(&self, scope: Scope, edge: Edge, at: u32) -> Mem<Option<Found>>
+    fn part(&self, scope: SharedScope, edge: Edge, at: u32) -> Mem<Option<Found>>
         requires nests { Nests self.now.tokens.now self.now.depth (F.pre self.now.parse) (F.post self.now.parse) }
         ensures { IfOk result (Part self.now.tokens.now self.now.depth scope edge.before edge.symbol at) }
     {
@@ -165,7 +168,7 @@ impl<F: Fn(Global, &[Lexeme], &Scope, Nonterminal, u32, u32) -> Mem<Option<Found
 
     /// Whether an item of a block stands at an edge and none derives there, since none does where the bad one before it begins
     /// and that are specifiers which may stand before it.
-    fn is_dead(&self, scope: &Scope, edge: Edge, failed: u32, at: u32) -> Mem<bool>
+    fn is_dead(&self, scope: &SharedScope, edge: Edge, failed: u32, at: u32) -> Mem<bool>
         requires nests { Nests self.now.tokens.now self.now.depth (F.pre self.now.parse) (F.post self.now.parse) }
         requires none { failed < at → Parses self.now.tokens.now self.now.depth scope.now nt.BlockItem failed None }
         ensures { IfOk result (λ dead. dead ≡ true → Dead self.now.tokens.now self.now.depth scope.now edge at) }
@@ -182,7 +185,7 @@ impl<F: Fn(Global, &[Lexeme], &Scope, Nonterminal, u32, u32) -> Mem<Option<Found
     }
 
     /// What stands at an edge, where no item of a block derives from an earlier token on.
-    fn part_after(&self, scope: Scope, edge: Edge, failed: u32, at: u32) -> Mem<Option<Found>>
+    fn part_after(&self, scope: SharedScope, edge: Edge, failed: u32, at: u32) -> Mem<Option<Found>>
         requires nests { Nests self.now.tokens.now self.now.depth (F.pre self.now.parse) (F.post self.now.parse) }
         requires none { failed < at → Parses self.now.tokens.now self.now.depth scope nt.BlockItem failed None }
         ensures { IfOk result (Part self.now.tokens.now self.now.depth scope edge.before edge.symbol at) }
@@ -196,54 +199,47 @@ impl<F: Fn(Global, &[Lexeme], &Scope, Nonterminal, u32, u32) -> Mem<Option<Found
     }
 
     /// Whether the token there may not follow a production that ends at a place.
-    fn barred(&self, scope: &Scope, place: u16, at: u32) -> bool
+    fn barred(&self, scope: &SharedScope, place: u16, at: u32) -> bool
         ensures yes { result ≡ true → (k : Class) × (n.class_at self.now.tokens.now scope.now at ≡ Some k) × Has (t.bars place) k }
         ensures no { result ≡ false → (k : Class) → n.class_at self.now.tokens.now scope.now at ≡ Some k → Has (t.bars place) k → ⊥ }
     {
-        let Some(terminal) = bar(place) else {
-            return false;
-        };
         match class_at(self.tokens, scope, at) {
-            Some(class) => taken(terminal, class),
+            Some(class) => bars(place, class),
             None => false,
         }
     }
 
     /// Whether an `else` is there that may follow a production that ends at a place only where no statement derives after it.
-    fn dangles(&self, scope: &Scope, place: u16, at: u32) -> bool
+    fn dangles(&self, scope: &SharedScope, place: u16, at: u32) -> bool
         ensures yes { result ≡ true → (n.class_at self.now.tokens.now scope.now at ≡ Some cl.Else) × Has (t.bars place) cl.Else }
         ensures no { result ≡ false → n.class_at self.now.tokens.now scope.now at ≡ Some cl.Else → Has (t.bars place) cl.Else → ⊥ }
     {
-        let barred = self.barred(scope, place, at);
-        if !barred {
-            return false;
-        }
         match class_at(self.tokens, scope, at) {
-            Some(class) => same_class(class, Class::Else),
+            Some(class) => dangling(place, class),
             None => false,
         }
     }
 
     /// What begins at a place of a production, but for such an `else`.
-    fn edge(&self, scope: &Scope, place: u16, at: u32) -> Option<Edge>
+    fn edge(&self, scope: &SharedScope, place: u16, at: u32) -> Option<Edge>
         ensures some { IfSome result (λ e. Has (t.edges place) e × ((k : Class) × (n.class_at self.now.tokens.now scope.now at ≡ Some k) × Begins e.before e.symbol k × (Has (t.bars place) k → k ≡ cl.Else → ⊥))) }
         ensures none { result ≡ None → (k : Class) → n.class_at self.now.tokens.now scope.now at ≡ Some k → Enters place k → (k ≡ cl.Else) × Has (t.bars place) k }
     {
-        let dangling = self.dangles(scope, place, at);
+        let Some(class) = class_at(self.tokens, scope, at) else {
+            return None;
+        };
+        let dangling = dangling(place, class);
         if dangling {
             return None;
         }
-        match class_at(self.tokens, scope, at) {
-            Some(class) => look(place, class),
-            None => None,
-        }
+        look(place, class)
     }
 
     /// The node that has these parts and ends at a place of its production.
     fn node(
         &self,
-        before: &Scope,
-        inside: Scope,
+        before: &SharedScope,
+        inside: SharedScope,
         place: u16,
         parts: List<Tree>,
         from: u32,
@@ -260,7 +256,7 @@ impl<F: Fn(Global, &[Lexeme], &Scope, Nonterminal, u32, u32) -> Mem<Option<Found
         let Some(label) = name_of(place) else {
             return Ok(None);
         };
-        let after = leave(self.alloc, place, before, inside)?;
+        let after = leave(place, before, inside)?;
         Ok(Some(Found {
             tree: Tree {
                 rule: label.rule,
@@ -278,8 +274,8 @@ impl<F: Fn(Global, &[Lexeme], &Scope, Nonterminal, u32, u32) -> Mem<Option<Found
     /// The node that has these parts, an `else` and the statement after it; where none derives, it ends before the `else`.
     fn with_else(
         &self,
-        before: &Scope,
-        inside: Scope,
+        before: &SharedScope,
+        inside: SharedScope,
         place: u16,
         parts: List<Tree>,
         from: u32,
@@ -293,8 +289,8 @@ impl<F: Fn(Global, &[Lexeme], &Scope, Nonterminal, u32, u32) -> Mem<Option<Found
         requires bar { Has (t.bars place) cl.Else }
         ensures { IfOk result (Ends self.now.tokens.now self.now.depth before.now inside place parts from at) }
     {
-        let copy = inside.share(self.alloc)?;
-        let beyond = pass(self.tokens, copy, Act::Close, at)?;
+        let copy = inside.share()?;
+        let beyond = pass(self.alloc, self.tokens, copy, Act::Close, at)?;
         let Some(statement) = self.nonterminal(&beyond, Nonterminal::Statement, at + 1)? else {
             return self.node(before, inside, place, parts, from, at, height);
         };
@@ -310,8 +306,8 @@ impl<F: Fn(Global, &[Lexeme], &Scope, Nonterminal, u32, u32) -> Mem<Option<Found
     /// The node that has these parts, where nothing else goes on from a place of its production.
     fn ending(
         &self,
-        before: &Scope,
-        inside: Scope,
+        before: &SharedScope,
+        inside: SharedScope,
         place: u16,
         parts: List<Tree>,
         from: u32,
@@ -338,8 +334,8 @@ impl<F: Fn(Global, &[Lexeme], &Scope, Nonterminal, u32, u32) -> Mem<Option<Found
     /// The node that has these parts, and goes on from a place of its production.
     fn read(
         &self,
-        before: &Scope,
-        inner: Scope,
+        before: &SharedScope,
+        inner: SharedScope,
         start: u16,
         first: List<Tree>,
         from: u32,
@@ -372,7 +368,7 @@ impl<F: Fn(Global, &[Lexeme], &Scope, Nonterminal, u32, u32) -> Mem<Option<Found
     }
 
     /// The node that begins a tree of a nonterminal.
-    fn opener(&self, scope: &Scope, goal: Nonterminal, at: u32) -> Mem<Option<Found>>
+    fn opener(&self, scope: &SharedScope, goal: Nonterminal, at: u32) -> Mem<Option<Found>>
         requires nests { Nests self.now.tokens.now self.now.depth (F.pre self.now.parse) (F.post self.now.parse) }
         ensures { IfOk result (Opens self.now.tokens.now self.now.depth scope.now goal at) }
     {
@@ -382,12 +378,12 @@ impl<F: Fn(Global, &[Lexeme], &Scope, Nonterminal, u32, u32) -> Mem<Option<Found
         let Some(start) = opening(goal, class) else {
             return Ok(None);
         };
-        let inner = scope.share(self.alloc)?;
+        let inner = scope.share()?;
         self.read(scope, inner, start, List::new(self.alloc), at, at, 0)
     }
 
     /// The node of a production that begins with a part.
-    fn step(&self, before: &Scope, start: u16, left: Found) -> Mem<Option<Found>>
+    fn step(&self, before: &SharedScope, start: u16, left: Found) -> Mem<Option<Found>>
         requires nests { Nests self.now.tokens.now self.now.depth (F.pre self.now.parse) (F.post self.now.parse) }
         requires left { Sound self.now.tokens.now (suc self.now.depth) before.now left }
         requires goes_on { GoesOn self.now.tokens.now left.scope start left.place (end left.tree) }
@@ -409,7 +405,7 @@ impl<F: Fn(Global, &[Lexeme], &Scope, Nonterminal, u32, u32) -> Mem<Option<Found
     }
 
     /// The tree of a nonterminal that goes on from its first node.
-    fn climb(&self, before: &Scope, goal: Nonterminal, first: Found) -> Mem<Option<Found>>
+    fn climb(&self, before: &SharedScope, goal: Nonterminal, first: Found) -> Mem<Option<Found>>
         requires nests { Nests self.now.tokens.now self.now.depth (F.pre self.now.parse) (F.post self.now.parse) }
         requires first { Sound self.now.tokens.now (suc self.now.depth) before.now first }
         ensures { IfOk result (Climbs self.now.tokens.now self.now.depth before.now goal first) }
@@ -429,7 +425,7 @@ impl<F: Fn(Global, &[Lexeme], &Scope, Nonterminal, u32, u32) -> Mem<Option<Found
 pub fn tree_at(
     alloc: Global,
     tokens: &[Lexeme],
-    scope: &Scope,
+    scope: &SharedScope,
     goal: Nonterminal,
     depth: u32,
     at: u32,

@@ -1,8 +1,9 @@
 //! Whether the same is declared at two places.
 
 ghost use Rattle.std.specs.Prelude.{◌≡◌, true, length};
+ghost use Rattle.cl_tree.specs.Scopes.{empty};
 
-use cl_tree::{Change, Frame, Scope};
+use cl_tree::{Change, Frame, Scope, SharedScope};
 
 fn same_change(a: Change, b: Change) -> bool
     ensures { result ≡ true → a ≡ b }
@@ -64,8 +65,7 @@ fn same_frames(a: &[Frame], b: &[Frame]) -> bool
     those.is_empty()
 }
 
-/// Whether this is what is declared.
-pub fn same_scope(a: &Scope, b: &Scope) -> bool
+fn same_value(a: &Scope, b: &Scope) -> bool
     ensures { result ≡ true → a.now ≡ b.now }
 {
     a.typing == b.typing
@@ -74,4 +74,28 @@ pub fn same_scope(a: &Scope, b: &Scope) -> bool
         && same_frames(a.frames.as_slice(), b.frames.as_slice())
         && a.listed == b.listed
         && same_changes(a.aside.as_slice(), b.aside.as_slice())
+}
+
+/// Whether nothing is declared and nothing is open.
+fn is_bare(scope: &Scope) -> bool
+    ensures { result ≡ true → scope.now ≡ empty }
+{
+    !scope.typing
+        && scope.pending.is_none()
+        && scope.changes.as_slice().is_empty()
+        && scope.frames.as_slice().is_empty()
+        && !scope.listed
+        && scope.aside.as_slice().is_empty()
+}
+
+/// Whether this is what is declared.
+pub fn same_scope(a: &SharedScope, b: &SharedScope) -> bool
+    ensures { result ≡ true → a.now ≡ b.now }
+{
+    match (a.get(), b.get()) {
+        (Some(one), Some(other)) => same_value(one, other),
+        (Some(one), None) => is_bare(one),
+        (None, Some(other)) => is_bare(other),
+        (None, None) => true,
+    }
 }

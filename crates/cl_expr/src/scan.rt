@@ -11,9 +11,9 @@ ghost use Rattle.cl_expr.specs.code.Table as t;
 ghost use Rattle.cl_expr.specs.code.Parses.{Begins, Enters, GoesOn, GoesWith, type_words};
 
 use crate::looks::{edge_number, opener_number, suffix_number};
-use crate::places::{corner, edges, kinds, openers, shuns, suffixes};
+use crate::places::{bar, corner, edges, kinds, openers, shuns, suffixes};
 use crate::table::Edge;
-use cl_tree::{Class, Lexeme, Nonterminal, Scope, Terminal, class_at};
+use cl_tree::{Class, Lexeme, Nonterminal, SharedScope, Terminal, class_at};
 
 /// Whether two classes are one.
 pub fn same_class(a: Class, b: Class) -> bool
@@ -80,8 +80,28 @@ pub fn taken(terminal: Terminal, class: Class) -> bool
     }
 }
 
+/// Whether a token of a class may not follow a production that ends at a place.
+pub fn bars(place: u16, class: Class) -> bool
+    ensures yes { result ≡ true → Has (t.bars place) class }
+    ensures no { result ≡ false → Has (t.bars place) class → ⊥ }
+{
+    match bar(place) {
+        Some(terminal) => taken(terminal, class),
+        None => false,
+    }
+}
+
+/// Whether a token is an `else` that may not follow a production that ends at a place.
+pub fn dangling(place: u16, class: Class) -> bool
+    ensures yes { result ≡ true → (class ≡ cl.Else) × Has (t.bars place) cl.Else }
+    ensures no { result ≡ false → class ≡ cl.Else → Has (t.bars place) cl.Else → ⊥ }
+{
+    let lost = same_class(class, Class::Else);
+    lost && bars(place, Class::Else)
+}
+
 /// Whether a `}` stands at a number.
-pub fn is_brace(tokens: &[Lexeme], scope: &Scope, at: u32) -> bool
+pub fn is_brace(tokens: &[Lexeme], scope: &SharedScope, at: u32) -> bool
     ensures yes { result ≡ true → n.class_at tokens.now scope.now at ≡ Some cl.RightBrace }
     ensures no { result ≡ false → n.class_at tokens.now scope.now at ≡ Some cl.RightBrace → ⊥ }
 {
@@ -92,7 +112,7 @@ pub fn is_brace(tokens: &[Lexeme], scope: &Scope, at: u32) -> bool
 }
 
 /// Whether a type specifier that is no typedef name begins at a number.
-pub fn is_type_at(tokens: &[Lexeme], scope: &Scope, at: u32) -> bool
+pub fn is_type_at(tokens: &[Lexeme], scope: &SharedScope, at: u32) -> bool
     ensures { result ≡ true → (k : Class) × (n.class_at tokens.now scope.now at ≡ Some k) × Has type_words k }
 {
     match class_at(tokens, scope, at) {
@@ -120,7 +140,7 @@ pub fn is_type_at(tokens: &[Lexeme], scope: &Scope, at: u32) -> bool
 }
 
 /// Whether no tree of a nonterminal begins with the token there.
-pub fn is_shunned(tokens: &[Lexeme], scope: &Scope, goal: Nonterminal, at: u32) -> bool
+pub fn is_shunned(tokens: &[Lexeme], scope: &SharedScope, goal: Nonterminal, at: u32) -> bool
     ensures yes { result ≡ true → d.Opened tokens.now goal scope.now at → ⊥ }
     ensures no { result ≡ false → d.Opened tokens.now goal scope.now at }
 {
@@ -225,7 +245,13 @@ fn goer_soon(goal: Nonterminal, kind: u16, class: Class) -> Option<u16>
 }
 
 /// The production that goes on from a part.
-pub fn going(tokens: &[Lexeme], scope: &Scope, goal: Nonterminal, kind: u16, at: u32) -> Option<u16>
+pub fn going(
+    tokens: &[Lexeme],
+    scope: &SharedScope,
+    goal: Nonterminal,
+    kind: u16,
+    at: u32,
+) -> Option<u16>
     ensures some { IfSome result (λ s. Has (t.suffixes goal) s × GoesOn tokens.now scope.now s kind at) }
     ensures none { result ≡ None → (s : ℕ) → Has (t.suffixes goal) s → GoesOn tokens.now scope.now s kind at → ⊥ }
 {

@@ -11,7 +11,7 @@ use crate::reader::{Found, Grammar, tree_at};
 use crate::same::same_scope;
 use crate::scan::is_type_at;
 use cl_base::{Mem, Memory};
-use cl_tree::{Lexeme, Nonterminal, Scope};
+use cl_tree::{Lexeme, Nonterminal, SharedScope};
 use std::alloc::Global;
 
 /// The most tokens: 2^32 - 5.
@@ -32,13 +32,22 @@ pub fn specifiers_before(alloc: Global, tokens: &[Lexeme], from: u32, to: u32) -
         depth: 511,
         parse: tree_at,
     };
-    let found = grammar.stands_before(&Scope::new(alloc), 510, from, to)?;
+    let found = grammar.stands_before(&SharedScope::new(), 510, from, to)?;
     Ok(found)
 }
 
-impl<F: Fn(Global, &[Lexeme], &Scope, Nonterminal, u32, u32) -> Mem<Option<Found>>> Grammar<'_, F> {
+impl<F: Fn(Global, &[Lexeme], &SharedScope, Nonterminal, u32, u32) -> Mem<Option<Found>>> Grammar<
+    '_,
+    F,
+> {
     /// A specifier there, of at most a height.
-    fn specifier(&self, scope: &Scope, goal: Nonterminal, high: u32, at: u32) -> Mem<Option<Found>>
+    fn specifier(
+        &self,
+        scope: &SharedScope,
+        goal: Nonterminal,
+        high: u32,
+        at: u32,
+    ) -> Mem<Option<Found>>
         requires nests { Nests self.now.tokens.now self.now.depth (F.pre self.now.parse) (F.post self.now.parse) }
         requires high { high ≤ self.now.depth }
         ensures { IfOk result (Parses self.now.tokens.now high scope.now goal at) }
@@ -47,7 +56,13 @@ impl<F: Fn(Global, &[Lexeme], &Scope, Nonterminal, u32, u32) -> Mem<Option<Found
     }
 
     /// What is declared behind the specifiers that stand from one token up to another, where others stand before them.
-    fn later_specifiers(&self, before: Scope, high: u32, from: u32, to: u32) -> Mem<Option<Scope>>
+    fn later_specifiers(
+        &self,
+        before: SharedScope,
+        high: u32,
+        from: u32,
+        to: u32,
+    ) -> Mem<Option<SharedScope>>
         requires nests { Nests self.now.tokens.now self.now.depth (F.pre self.now.parse) (F.post self.now.parse) }
         requires high { high ≤ self.now.depth }
         ensures { IfOk result (λ it. IfSome it (λ after. (s : TheScope) (first : ℕ) → Chain self.now.tokens.now high s first from before → Chain self.now.tokens.now high s first to after)) }
@@ -67,13 +82,19 @@ impl<F: Fn(Global, &[Lexeme], &Scope, Nonterminal, u32, u32) -> Mem<Option<Found
 
     /// What is declared behind the specifiers that stand from one token up to another, of which one is of a type and no typedef
     /// name.
-    fn specifiers(&self, scope: &Scope, high: u32, from: u32, to: u32) -> Mem<Option<Scope>>
+    fn specifiers(
+        &self,
+        scope: &SharedScope,
+        high: u32,
+        from: u32,
+        to: u32,
+    ) -> Mem<Option<SharedScope>>
         requires nests { Nests self.now.tokens.now self.now.depth (F.pre self.now.parse) (F.post self.now.parse) }
         requires high { high ≤ self.now.depth }
         ensures { IfOk result (λ it. IfSome it (Chain self.now.tokens.now high scope.now from to)) }
     {
         let goal = Nonterminal::OtherSpecifier;
-        let mut after = scope.share(self.alloc)?;
+        let mut after = scope.share()?;
         let mut at = from;
         while let Some(found) = self.specifier(&after, goal, high, at)? {
             at = found.tree.to;
@@ -89,14 +110,14 @@ impl<F: Fn(Global, &[Lexeme], &Scope, Nonterminal, u32, u32) -> Mem<Option<Found
 
     /// Whether specifiers that are of no type stand at a token where one thing or another is declared, and behind them, where
     /// both are the same, one of a type begins that is no typedef name.
-    fn led(&self, these: Scope, those: &Scope, high: u32, from: u32) -> Mem<bool>
+    fn led(&self, these: SharedScope, those: &SharedScope, high: u32, from: u32) -> Mem<bool>
         requires nests { Nests self.now.tokens.now self.now.depth (F.pre self.now.parse) (F.post self.now.parse) }
         requires high { high ≤ self.now.depth }
         ensures { IfOk result (λ led. led ≡ true → Led self.now.tokens.now high these those.now from) }
     {
         let goal = Nonterminal::OtherSpecifier;
         let mut one = these;
-        let mut other = those.share(self.alloc)?;
+        let mut other = those.share()?;
         let mut at = from;
         while let Some(this) = self.specifier(&one, goal, high, at)? {
             let Some(that) = self.specifier(&other, goal, high, at)? else {
@@ -117,7 +138,7 @@ impl<F: Fn(Global, &[Lexeme], &Scope, Nonterminal, u32, u32) -> Mem<Option<Found
     }
 
     /// Whether what stands from one token up to another are specifiers that may stand before any that begin there.
-    pub fn stands_before(&self, scope: &Scope, high: u32, from: u32, to: u32) -> Mem<bool>
+    pub fn stands_before(&self, scope: &SharedScope, high: u32, from: u32, to: u32) -> Mem<bool>
         requires nests { Nests self.now.tokens.now self.now.depth (F.pre self.now.parse) (F.post self.now.parse) }
         requires high { high ≤ self.now.depth }
         ensures { IfOk result (λ stands. stands ≡ true → Before self.now.tokens.now high scope.now from to) }

@@ -2,7 +2,7 @@
 use Rattle.std.proofs.Common.{◌≡◌, ◌⊎◌, ℕ, suc, zero, ◌+◌, ◌-◌, ◌<◌, ◌≤◌, List, [], ◌∷◌, ◌++◌, length, take, map, Option, Some, None, Bool, true, false, refl, sym, ap, ◌∙◌, subst, inl, inr, ⊎_elim, arith, length-append}
 use Rattle.std.proofs.lemmas.Bool.{cases_lt}
 use Rattle.std.proofs.lemmas.List.{length-map, take_all}
-use Rattle.std.proofs.lemmas.Option.{slice_get-map, slice_get_past, slice_get_within}
+use Rattle.std.proofs.lemmas.Option.{slice_get-map, slice_get_within}
 use Rattle.std.specs.Cmp.Lexicographic.{pointwise, texts_ties}
 use Rattle.std.specs.Option.{option_map}
 use Rattle.std.specs.Prelude.{cond, nat_eq, slice_get}
@@ -167,13 +167,6 @@ module _ (old names : Names) (to : ℕ) (ts : List Lexeme) (changes : List Chang
   pub all_anew : AreAnew names to ts new
   all_anew = record { count = a.some.count; front = a.some.front; behind = λ i m. place_anew i m (slice_get ts i) refl }
 
--- nothing changed, or nothing stands ahead
+-- nothing changed
 pub still_anew : (names : Names) (to : ℕ) (ts : List Lexeme) → AreNamed names ts to → AreAnew names to ts ts
 still_anew names to ts named = record { count = refl; front = λ i l. refl; behind = named }
-
-pub none_ahead : (names : Names) (to : ℕ) (ts : List Lexeme) → length ts ≡ to → AreAnew names to ts ts
-none_ahead names to ts e = record {
-  count = refl;
-  front = λ i l. refl;
-  behind = λ i m. (let past : slice_get ts i ≡ None = slice_get_past ts i (omega (arith, e, m)) in past ∙ sym (ap (option_map (retyped names)) past));
-}

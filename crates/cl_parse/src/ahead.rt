@@ -1,12 +1,11 @@
 //! The tokens ahead of an item, where names change.
 
 ghost use Rattle.std.specs.Prelude.{◌≡◌, ◌<◌, ◌≤◌, ◌^◌, ◌-◌, IfOk, length, slice_get, take};
-ghost use Rattle.cl_tree.specs.Scopes as s;
 ghost use Rattle.cl_tree.specs.Sets.{has};
 ghost use Rattle.cl_parse.specs.code.Ahead as a;
 
 use cl_base::{Duplicate, List, Mem, Name};
-use cl_tree::{Change, Lexeme, NameSet, Shape};
+use cl_tree::{Change, Lexeme, NameSet, Shape, text_at};
 use std::alloc::Global;
 use std::collections::BTreeMap;
 
@@ -58,16 +57,6 @@ fn retype_all(names: &NameSet, tokens: &mut Vec<Lexeme>, places: &[u32], to: usi
         if at >= to {
             retype(names, tokens, at);
         }
-    }
-}
-
-/// What the token at a number spells; past the end nothing.
-fn text_at(tokens: &[Lexeme], at: u32) -> &[u8]
-    ensures { result.now ≡ s.text_at tokens.now at }
-{
-    match tokens.get(at as usize) {
-        Some(token) => token.text.bytes(),
-        None => b"".as_slice(),
     }
 }
 

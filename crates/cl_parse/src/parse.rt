@@ -19,7 +19,7 @@ use crate::item::Item;
 use crate::marks::Marks;
 use cl_base::{List, Mem, Memory, PpToken};
 use cl_expr::{Parsed, parse_external, specifiers_before};
-use cl_tree::{Change, Lexeme, NameSet, Scope, bad_extent, brackets, learned, lexemes_to};
+use cl_tree::{Change, Lexeme, NameSet, SharedScope, bad_extent, brackets, learned, lexemes_to};
 use std::alloc::Global;
 
 /// The most tokens: 2^32 - 5.
@@ -138,7 +138,7 @@ fn external(alloc: Global, reading: &Reading, to: usize) -> Mem<Option<Parsed>>
     ensures only { IfOk result (λ it. (t : TheTree) (w : TheScope) → External (take to reading.now.ahead.items) empty reading.now.at t w → it ≡ Some (record { tree = t; scope = w })) }
 {
     let lexemes = &reading.ahead.as_slice()[..to];
-    let found = parse_external(alloc, lexemes, &Scope::new(alloc), reading.at as u32)?;
+    let found = parse_external(alloc, lexemes, &SharedScope::new(), reading.at as u32)?;
     Ok(found)
 }
 
@@ -189,7 +189,7 @@ fn proper(
 {
     let marks = reading.marks.moved(tokens, pairs, to);
     let Parsed { tree, scope } = parsed;
-    let changes = scope.changes.as_slice();
+    let changes = scope.changes();
     let reading = settled(alloc, reading, changes, to, marks)?;
     Ok(Next {
         item: Item::Proper(tree),
@@ -228,15 +228,6 @@ fn settled(
         &reading.ahead.as_slice()[..to],
         changes,
     )?;
-    if reading.ahead.len() == to {
-        return Ok(Reading {
-            names,
-            ahead: reading.ahead,
-            at: to,
-            marks,
-            places: reading.places,
-        });
-    }
     let places = reading.places.kept(alloc, reading.ahead.as_slice(), to)?;
     let ahead = places.learned(alloc, &names, reading.ahead, changes, to)?;
     Ok(Reading {

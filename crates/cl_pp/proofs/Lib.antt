@@ -28,3 +28,4 @@ pub mod Agreeing
 pub mod Unique
 mod Existing
 pub mod Found
+mod Seeing

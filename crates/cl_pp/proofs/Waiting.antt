@@ -32,6 +32,8 @@ use Rattle.cl_pp.specs.Resuming.{Agree, Continues, IsRead, Waits, world_of}
 use Rattle.cl_pp.specs.Standing.{Start, first_unknown, is_stopped, is_unknown, last_of, stopped_by, wanted, wanted_by}
 use Rattle.cl_pp.specs.Names.{contains}
 use Rattle.cl_pp.specs.code.Keeping.{Keeps, Sees}
+use Rattle.cl_pp.specs.code.Seeing.{IsAtHand}
+use Rattle.cl_pp.specs.declared.seen.Seen.{Seen}
 use Rattle.cl_pp.specs.code.Reaching.{IsIn, IsLaid, IsOpened, Looks}
 use Rattle.cl_pp.specs.code.Resuming.{IsAt, Passes, Stops}
 use Rattle.cl_pp.specs.code.Stacks.{Stand}
@@ -184,9 +186,12 @@ some_world source config known =
     (world_of (document teller.0 start known config.includes source.path source.text) source, in_it teller.0 start config known source.path source.text source teller.1)
 
 pub sees_same : (old new : Made) → new.seen ≡ old.seen → new.done.looked ≡ old.done.looked → Sees old → Sees new
-sees_same old new s l h name =
-    let seen : is_some (get (slice_cmp nat_cmp) new.seen name) ≡ is_some (get (slice_cmp nat_cmp) old.seen name) = λ i. is_some (get (slice_cmp nat_cmp) (s i) name) in
-    seen ∙ h name ∙ ap (λ (names : List (List ℕ)). contains names name) (sym l)
+sees_same old new s l h = (
+  λ name. (
+      let seen : is_some (get (slice_cmp nat_cmp) new.seen.names name) ≡ is_some (get (slice_cmp nat_cmp) old.seen.names name) = λ i. is_some (get (slice_cmp nat_cmp) (s i).names name) in
+      seen ∙ h.0 name ∙ ap (λ (names : List (List ℕ)). contains names name) (sym l)),
+  λ name here. ap (λ (names : List (List ℕ)). contains names name) l ∙ h.1 name (subst (λ (x : Seen). IsAtHand x.recent.items name) s here),
+)
 
 module _ (macros : List ℕ → Option Macro) (numbers : List ℕ → Option MacroNo) (before : Before) (config : Settings) (known : List ℕ → Known) (path text : List ℕ) (old new : PpWork) (fs : List Frame) (f : Frame) (target : Target)
     (o : old.frames ≡ fs ++ f ∷ []) (a : old.target ≡ Some target) (h : Waits macros numbers before config.includes path text old) where

@@ -8,3 +8,4 @@ pub mod Reaching
 pub mod Shelving
 pub mod Deciding
 pub mod Resuming
+pub mod Seeing

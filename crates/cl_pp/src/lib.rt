@@ -21,6 +21,7 @@ mod reach;
 mod replacing;
 mod run;
 mod section;
+mod seen;
 mod shelf;
 mod start;
 mod stray;

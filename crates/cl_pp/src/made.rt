@@ -2,7 +2,8 @@
 
 use crate::done::PpDone;
 use crate::section::Section;
-use cl_base::{Fault, Lexed, LineTable, List, Name, Path, Text};
+use crate::seen::Seen;
+use cl_base::{Fault, Lexed, LineTable, List, Path, Text};
 use cl_cond::Mark;
 use cl_headers::Dep;
 use std::alloc::Global;
@@ -78,11 +79,11 @@ pub(crate) struct Opened {
     pub(crate) told: BTreeMap<u32, Fault>,
 }
 
-/// What is made so far. `seen` are the names of `done.looked`.
+/// What is made so far. `seen` has the names of `done.looked`.
 #[derive(Drop)]
 pub(crate) struct Made {
     pub(crate) done: PpDone,
-    pub(crate) seen: BTreeMap<Name, ()>,
+    pub(crate) seen: Seen,
 }
 
 /// How the tokens before an invocation are counted.

@@ -19,13 +19,13 @@ use crate::file::lines;
 use crate::made::{Found, Frame, Made, Place, Reached, Source, Wanted};
 use crate::open::{begin, open};
 use crate::reach::{add_deps, reach};
+use crate::seen::Seen;
 use crate::shelf::Shelf;
 use crate::start::PpState;
 use cl_base::{Config, Duplicate, List, Mem, Memory, Path, Text};
 use cl_headers::{Dep, HeaderView};
 use cl_macro::{MacroBase, MacroTable};
 use std::alloc::Global;
-use std::collections::BTreeMap;
 use std::sync::Arc;
 
 /// Work on a text: the macros, what is made so far, the headers that were lexed, the files that are open, the outermost
@@ -69,7 +69,7 @@ impl PpWork {
             table: start.macros,
             made: Made {
                 done,
-                seen: BTreeMap::new(alloc),
+                seen: Seen::new(alloc)?,
             },
             shelf: Shelf::new(alloc),
             frames: List::new(alloc),
@@ -87,7 +87,7 @@ impl PpWork {
     }
 
     /// Goes on over a view that knows of the headers that were asked for what was known then. What comes of the text is
-    /// what comes of it where it is preprocessed from its start over this view, and no header is asked for again. The
+    /// what comes of it where it is preprocessed from its start over this view. The
     /// settings' folders are those of the start.
     pub fn go_on<B: MacroBase, V: HeaderView>(
         self,

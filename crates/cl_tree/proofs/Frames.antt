@@ -29,21 +29,21 @@ last_get {X = X} (x ∷ y ∷ xs) =
     ap (slice_get (x ∷ y ∷ xs)) e ∙ last_get (y ∷ xs)
 
 -- what stands after the end of a list
-pub closed_is : (s : Scope) (fs : List Frame) (f : Frame) (cs aside : List Change) (keep : Bool) → s.frames ≡ fs ++ f ∷ [] → cs ≡ take f.kept s.changes → keep ≡ keeps s fs
-    → aside ≡ aside_by keep s f.kept → record { typing = f.typing; pending = f.pending; changes = cs; frames = fs; listed = keep || s.listed; aside = aside } ≡ closed s
-closed_is s fs f cs aside keep e k is kept =
+pub closed_is : (s : Scope) (fs outer : List Frame) (f : Frame) (cs aside : List Change) (keep : Bool) → s.frames ≡ fs ++ f ∷ [] → outer ≡ fs → cs ≡ take f.kept s.changes → keep ≡ keeps s fs
+    → aside ≡ aside_by keep s f.kept → record { typing = f.typing; pending = f.pending; changes = cs; frames = outer; listed = keep || s.listed; aside = aside } ≡ closed s
+closed_is s fs outer f cs aside keep e o k is kept =
     let a : last s.frames ≡ Some f = ap last e ∙ last_is fs f in
     let b : front s.frames ≡ fs = ap front e ∙ front_is fs f in
     let all : aside ≡ aside_by (keeps s fs) s f.kept = kept ∙ ap (λ (v : Bool). aside_by v s f.kept) is in
-    (λ i. record { typing = f.typing; pending = f.pending; changes = k i; frames = fs; listed = is i || s.listed; aside = all i })
+    (λ i. record { typing = f.typing; pending = f.pending; changes = k i; frames = o i; listed = is i || s.listed; aside = all i })
     ∙ (λ i. record { typing = f.typing; pending = f.pending; changes = take f.kept s.changes; frames = sym b i; listed = keeps s (sym b i) || s.listed; aside = aside_by (keeps s (sym b i)) s f.kept })
     ∙ ap (closed_by s) (sym a)
 
-pub shut_is : (s : Scope) (fs : List Frame) (f : Frame) → s.frames ≡ fs ++ f ∷ [] → record { typing = f.typing; pending = f.pending; changes = s.changes; frames = fs; listed = s.listed; aside = s.aside } ≡ shut s
-shut_is s fs f e =
+pub shut_is : (s : Scope) (fs outer : List Frame) (f : Frame) → s.frames ≡ fs ++ f ∷ [] → outer ≡ fs → record { typing = f.typing; pending = f.pending; changes = s.changes; frames = outer; listed = s.listed; aside = s.aside } ≡ shut s
+shut_is s fs outer f e o =
     let a : last s.frames ≡ Some f = ap last e ∙ last_is fs f in
-    let b : front s.frames ≡ fs = ap front e ∙ front_is fs f in
-    (λ i. record { typing = f.typing; pending = f.pending; changes = s.changes; frames = sym b i; listed = s.listed; aside = s.aside }) ∙ ap (shut_by s) (sym a)
+    let b : outer ≡ front s.frames = o ∙ sym (ap front e ∙ front_is fs f) in
+    (λ i. record { typing = f.typing; pending = f.pending; changes = s.changes; frames = b i; listed = s.listed; aside = s.aside }) ∙ ap (shut_by s) (sym a)
 
 pub brace_is : (p : Pairing) (bs : List Brace) (b : Brace) (os : List Opened) (ps : List ℕ) → p.braces ≡ bs ++ b ∷ [] → os ≡ take b.before p.others → ps ≡ paired p.partners b.at
     → record { braces = bs; others = os; partners = ps } ≡ close_brace p (last p.braces)

@@ -10,7 +10,9 @@ use crate::grammar::Act;
 use crate::lexeme::Lexeme;
 use crate::set::NameSet;
 use crate::shape::Shape;
-use cl_base::{List, Mem, Name};
+use crate::shared::Shared;
+use crate::shared_scope::SharedScope;
+use cl_base::{Mem, Name};
 use std::alloc::Global;
 
 /// A declaration that changes what a name is: the number of the token that is its name, and whether it is a typedef name
@@ -36,50 +38,44 @@ pub struct Frame {
 pub struct Scope {
     pub typing: bool,
     pub pending: Option<u32>,
-    pub changes: List<Change>,
-    pub frames: List<Frame>,
+    pub changes: Shared<Change>,
+    pub frames: Shared<Frame>,
     pub listed: bool,
-    pub aside: List<Change>,
+    pub aside: Shared<Change>,
 }
 
 impl Scope {
-    /// Nothing is declared yet.
-    pub fn new(alloc: Global) -> Scope
+    /// Nothing is declared yet. It takes no memory.
+    pub(crate) fn new() -> Scope
         ensures { result ≡ s.empty }
     {
         Scope {
             typing: false,
             pending: None,
-            changes: List::new(alloc),
-            frames: List::new(alloc),
+            changes: Shared::new(),
+            frames: Shared::new(),
             listed: false,
-            aside: List::new(alloc),
+            aside: Shared::new(),
         }
     }
 
-    /// A copy.
-    pub fn share(&self, alloc: Global) -> Mem<Scope>
+    /// The same, which both share.
+    pub(crate) fn share(&self) -> Mem<Scope>
         ensures { IfOk result (λ copy. copy ≡ self.now) }
     {
-        let mut changes = List::new(alloc);
-        changes.extend(self.changes.as_slice())?;
-        let mut frames = List::new(alloc);
-        frames.extend(self.frames.as_slice())?;
-        let mut aside = List::new(alloc);
-        aside.extend(self.aside.as_slice())?;
         Ok(Scope {
             typing: self.typing,
             pending: self.pending,
-            changes,
-            frames,
+            changes: self.changes.share()?,
+            frames: self.frames.share()?,
             listed: self.listed,
-            aside,
+            aside: self.aside.share()?,
         })
     }
 }
 
 /// What the token at a number spells; past the end nothing.
-fn text_at(tokens: &[Lexeme], at: u32) -> &[u8]
+pub fn text_at(tokens: &[Lexeme], at: u32) -> &[u8]
     ensures { result.now ≡ s.text_at tokens.now at }
 {
     match tokens.get(at as usize) {
@@ -156,13 +152,13 @@ fn paren_class(types: bool, literal: bool) -> Class
 
 /// The class of the token at a number. None exactly from the length on.
 #[tactic(auto, unfolding(crate::specs::Scopes::class_at))]
-pub fn class_at(tokens: &[Lexeme], scope: &Scope, at: u32) -> Option<Class>
+pub fn class_at(tokens: &[Lexeme], scope: &SharedScope, at: u32) -> Option<Class>
     ensures { result ≡ s.class_at tokens.now scope.now at }
 {
     let Some(token) = tokens.get(at as usize) else {
         return None;
     };
-    let changes = scope.changes.as_slice();
+    let changes = scope.changes();
     let class = match token.shape {
         Shape::Fixed(class) => class,
         Shape::Word(colon) => word_class(
@@ -178,11 +174,12 @@ pub fn class_at(tokens: &[Lexeme], scope: &Scope, at: u32) -> Option<Class>
 
 /// The declarations, with one more where it changes what the name is.
 fn declared(
+    alloc: Global,
     tokens: &[Lexeme],
-    changes: List<Change>,
+    changes: Shared<Change>,
     name: Option<u32>,
     typed: bool,
-) -> Mem<List<Change>>
+) -> Mem<Shared<Change>>
     ensures { IfOk result (λ after. after ≡ s.declared tokens.now changes name typed) }
 {
     let Some(at) = name else {
@@ -192,21 +189,19 @@ fn declared(
     if now == typed {
         return Ok(changes);
     }
-    let mut after = changes;
-    after.push(Change { at, typed })?;
-    Ok(after)
+    changes.with(alloc, Change { at, typed })
 }
 
 /// A list of parameters, members or enumerators begins.
-fn opened(scope: Scope) -> Mem<Scope>
+fn opened(alloc: Global, scope: Scope) -> Mem<Scope>
     ensures { IfOk result (λ after. after ≡ s.opened scope) }
 {
-    let mut frames = scope.frames;
-    frames.push(Frame {
+    let frame = Frame {
         typing: scope.typing,
         pending: scope.pending,
-        kept: scope.changes.len() as u32,
-    })?;
+        kept: scope.changes.as_slice().len() as u32,
+    };
+    let frames = scope.frames.with(alloc, frame)?;
     Ok(Scope {
         typing: false,
         pending: None,
@@ -218,40 +213,45 @@ fn opened(scope: Scope) -> Mem<Scope>
 }
 
 /// What is kept aside: the declarations from one on, or what was so before.
-fn kept_aside(keep: bool, changes: &[Change], from: u32, before: List<Change>) -> Mem<List<Change>>
+fn kept_aside(
+    alloc: Global,
+    keep: bool,
+    changes: &[Change],
+    from: u32,
+    before: Shared<Change>,
+) -> Mem<Shared<Change>>
     ensures { IfOk result (λ after. after ≡ cond keep (drop from changes.now) before) }
 {
     if !keep {
         return Ok(before);
     }
-    let mut after = before;
-    after.truncate(0);
     let start = from as usize;
-    if start < changes.len() {
-        let (_, rest) = changes.split_at(start);
-        after.extend(rest)?;
+    if start >= changes.len() {
+        return Ok(Shared::new());
     }
-    Ok(after)
+    let (_, rest) = changes.split_at(start);
+    Shared::new().with_all(alloc, rest)
 }
 
 /// A list of parameters or a block ends, and its names with it.
-fn closed(scope: Scope) -> Mem<Scope>
+fn closed(alloc: Global, scope: Scope) -> Mem<Scope>
     ensures { IfOk result (λ after. after ≡ s.closed scope) }
 {
-    let mut frames = scope.frames;
-    let mut changes = scope.changes;
+    let mut frames = scope.frames.into_list(alloc)?;
+    let changes = scope.changes;
     let listed = scope.listed;
     match frames.pop() {
         Some(frame) => {
             let keep = keeps(frames.as_slice(), listed);
-            let aside = kept_aside(keep, changes.as_slice(), frame.kept, scope.aside)?;
+            let aside = kept_aside(alloc, keep, changes.as_slice(), frame.kept, scope.aside)?;
             let had = had_list(keep, listed);
-            changes.truncate(frame.kept as usize);
+            let changes = changes.front(alloc, frame.kept as usize)?;
+            let outer = Shared::of(alloc, frames)?;
             Ok(Scope {
                 typing: frame.typing,
                 pending: frame.pending,
                 changes,
-                frames,
+                frames: outer,
                 listed: had,
                 aside,
             })
@@ -260,7 +260,7 @@ fn closed(scope: Scope) -> Mem<Scope>
             typing: scope.typing,
             pending: scope.pending,
             changes,
-            frames,
+            frames: Shared::new(),
             listed,
             aside: scope.aside,
         }),
@@ -290,35 +290,38 @@ fn keeps(frames: &[Frame], listed: bool) -> bool
 }
 
 /// A list of members or enumerators ends, and its names stay.
-fn shut(scope: Scope) -> Scope
-    ensures { result ≡ s.shut scope }
+fn shut(alloc: Global, scope: Scope) -> Mem<Scope>
+    ensures { IfOk result (λ after. after ≡ s.shut scope) }
 {
-    let mut frames = scope.frames;
+    let mut frames = scope.frames.into_list(alloc)?;
     match frames.pop() {
-        Some(frame) => Scope {
-            typing: frame.typing,
-            pending: frame.pending,
-            changes: scope.changes,
-            frames,
-            listed: scope.listed,
-            aside: scope.aside,
-        },
-        None => Scope {
+        Some(frame) => {
+            let outer = Shared::of(alloc, frames)?;
+            Ok(Scope {
+                typing: frame.typing,
+                pending: frame.pending,
+                changes: scope.changes,
+                frames: outer,
+                listed: scope.listed,
+                aside: scope.aside,
+            })
+        }
+        None => Ok(Scope {
             typing: scope.typing,
             pending: scope.pending,
             changes: scope.changes,
-            frames,
+            frames: Shared::new(),
             listed: scope.listed,
             aside: scope.aside,
-        },
+        }),
     }
 }
 
 /// The name that is being declared is so from here on, with or without more of the declaration to come.
-fn declaring(tokens: &[Lexeme], scope: Scope, typing: bool) -> Mem<Scope>
+fn declaring(alloc: Global, tokens: &[Lexeme], scope: Scope, typing: bool) -> Mem<Scope>
     ensures { IfOk result (λ after. after ≡ s.declaring tokens.now scope typing) }
 {
-    let changes = declared(tokens, scope.changes, scope.pending, scope.typing)?;
+    let changes = declared(alloc, tokens, scope.changes, scope.pending, scope.typing)?;
     Ok(Scope {
         typing,
         pending: None,
@@ -334,32 +337,32 @@ fn named(scope: Scope, at: u32) -> Scope
     ensures { result ≡ s.named scope at }
 {
     let outermost = is_outermost(scope.frames.as_slice());
-    let mut aside = scope.aside;
-    if outermost {
-        aside.truncate(0);
-    }
     Scope {
         typing: scope.typing,
         pending: Some(at),
         changes: scope.changes,
         frames: scope.frames,
         listed: if outermost { false } else { scope.listed },
-        aside,
+        aside: if outermost {
+            Shared::new()
+        } else {
+            scope.aside
+        },
     }
 }
 
 /// The body of a function begins.
-fn begun(tokens: &[Lexeme], scope: Scope) -> Mem<Scope>
+fn begun(alloc: Global, tokens: &[Lexeme], scope: Scope) -> Mem<Scope>
     ensures { IfOk result (λ after. after ≡ s.begun tokens.now scope) }
 {
-    let mut changes = declared(tokens, scope.changes, scope.pending, false)?;
-    let mut frames = scope.frames;
-    frames.push(Frame {
+    let changes = declared(alloc, tokens, scope.changes, scope.pending, false)?;
+    let frame = Frame {
         typing: false,
         pending: None,
-        kept: changes.len() as u32,
-    })?;
-    changes.extend(scope.aside.as_slice())?;
+        kept: changes.as_slice().len() as u32,
+    };
+    let frames = scope.frames.with(alloc, frame)?;
+    let changes = changes.with_all(alloc, scope.aside.as_slice())?;
     Ok(Scope {
         typing: false,
         pending: None,
@@ -372,18 +375,28 @@ fn begun(tokens: &[Lexeme], scope: Scope) -> Mem<Scope>
 
 /// What is declared after the token at a number was read, which does this to the names.
 #[tactic(auto, unfolding(crate::specs::Scopes::pass))]
-pub fn pass(tokens: &[Lexeme], scope: Scope, act: Act, at: u32) -> Mem<Scope>
+pub fn pass(
+    alloc: Global,
+    tokens: &[Lexeme],
+    scope: SharedScope,
+    act: Act,
+    at: u32,
+) -> Mem<SharedScope>
     ensures { IfOk result (λ after. after ≡ s.pass tokens.now scope act at) }
 {
     match act {
         Act::Stay => Ok(scope),
-        _ => acted(tokens, scope, act, at),
+        _ => {
+            let before = scope.into_scope()?;
+            let after = acted(alloc, tokens, before, act, at)?;
+            SharedScope::of(alloc, after)
+        }
     }
 }
 
 /// The same, where most acts change something.
 #[tactic(auto, unfolding(crate::specs::Scopes::pass))]
-fn acted(tokens: &[Lexeme], scope: Scope, act: Act, at: u32) -> Mem<Scope>
+fn acted(alloc: Global, tokens: &[Lexeme], scope: Scope, act: Act, at: u32) -> Mem<Scope>
     ensures { IfOk result (λ after. after ≡ s.pass tokens.now scope act at) }
 {
     match act {
@@ -399,9 +412,9 @@ fn acted(tokens: &[Lexeme], scope: Scope, act: Act, at: u32) -> Mem<Scope>
         Act::Name => Ok(named(scope, at)),
         Act::Declare => {
             let typing = scope.typing;
-            declaring(tokens, scope, typing)
+            declaring(alloc, tokens, scope, typing)
         }
-        Act::Finish => declaring(tokens, scope, false),
+        Act::Finish => declaring(alloc, tokens, scope, false),
         Act::Forget => Ok(Scope {
             typing: scope.typing,
             pending: None,
@@ -410,17 +423,17 @@ fn acted(tokens: &[Lexeme], scope: Scope, act: Act, at: u32) -> Mem<Scope>
             listed: scope.listed,
             aside: scope.aside,
         }),
-        Act::Open => opened(scope),
+        Act::Open => opened(alloc, scope),
         Act::Close => {
             let typing = scope.typing;
-            let after = declaring(tokens, scope, typing)?;
-            closed(after)
+            let after = declaring(alloc, tokens, scope, typing)?;
+            closed(alloc, after)
         }
-        Act::Begin => begun(tokens, scope),
+        Act::Begin => begun(alloc, tokens, scope),
         Act::Shut => {
             let typing = scope.typing;
-            let after = declaring(tokens, scope, typing)?;
-            Ok(shut(after))
+            let after = declaring(alloc, tokens, scope, typing)?;
+            shut(alloc, after)
         }
     }
 }

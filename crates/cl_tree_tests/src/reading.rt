@@ -3,7 +3,7 @@
 use cl_base::{Duplicate, List, Mem, Name, PpToken, Span};
 use cl_expr::{Parsed, parse_external};
 use cl_lex::lex;
-use cl_tree::{Lexeme, NameSet, Rule, Scope, Tree, brackets, learned, lexemes_to};
+use cl_tree::{Lexeme, NameSet, Rule, SharedScope, Tree, brackets, learned, lexemes_to};
 use std::alloc::Global;
 
 /// The tokens of a text, where no line is a directive.
@@ -47,7 +47,7 @@ pub fn external(alloc: Global, text: &[u8]) -> Mem<String> {
         &names,
         tokens.len(),
     )?;
-    let tree = parse_external(alloc, all.as_slice(), &Scope::new(alloc), 0)?;
+    let tree = parse_external(alloc, all.as_slice(), &SharedScope::new(), 0)?;
     written(alloc, tokens.as_slice(), tree.map(|reading| reading.tree))
 }
 
@@ -76,19 +76,14 @@ pub fn after_external(alloc: Global, text: &[u8], from: u32) -> Mem<String> {
     let Some(reading) = external_at(alloc, first.as_slice(), 0)? else {
         return Ok(format!(in alloc; "not read")?);
     };
-    let names = learned(
-        alloc,
-        names,
-        first.as_slice(),
-        reading.scope.changes.as_slice(),
-    )?;
+    let names = learned(alloc, names, first.as_slice(), reading.scope.changes())?;
     let all = lexemes_to(alloc, first, tokens.as_slice(), pairs, &names, count)?;
     let tree = external_at(alloc, all.as_slice(), from)?;
     written(alloc, tokens.as_slice(), tree.map(|reading| reading.tree))
 }
 
 fn external_at(alloc: Global, tokens: &[Lexeme], from: u32) -> Mem<Option<Parsed>> {
-    parse_external(alloc, tokens, &Scope::new(alloc), from)
+    parse_external(alloc, tokens, &SharedScope::new(), from)
 }
 
 fn written(alloc: Global, tokens: &[PpToken], tree: Option<Tree>) -> Mem<String> {

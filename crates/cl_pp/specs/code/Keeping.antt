@@ -1,5 +1,5 @@
 -- What the code keeps beside what is made.
-use Rattle.std.specs.Prelude.{◌≡◌, ℕ, ◌+◌, List, Option, is_some, length}
+use Rattle.std.specs.Prelude.{◌≡◌, ℕ, ◌+◌, List, Option, true, is_some, length}
 use Rattle.std.specs.Cmp.Lexicographic.{slice_cmp}
 use Rattle.std.specs.Ordering.{nat_cmp}
 use Rattle.std.specs.BTreeMap.{get}
@@ -17,6 +17,7 @@ use Rattle.cl_macro.specs.Table.{event_of, macro_of}
 use Rattle.cl_pp.specs.Names.{contains}
 use Rattle.cl_pp.specs.Preprocessing.{World}
 use Rattle.cl_pp.specs.Standing.{Start, macro_at, number_at, with_replaced}
+use Rattle.cl_pp.specs.code.Seeing.{IsAtHand}
 use Rattle.cl_pp.specs.declared.made.File.{File}
 use Rattle.cl_pp.specs.declared.made.Made.{Made}
 use Rattle.cl_pp.specs.declared.made.Reach.{Reach}
@@ -31,8 +32,12 @@ abbrev pub number_of : (List ℕ → Option MacroNo) → MacroTable → List ℕ
 number_of numbers table = event_of table numbers
 
 -- the names that are kept are those that were looked up
+abbrev pub SeesNames : Made → Type 0
+SeesNames made = (name : List ℕ) → is_some (get (slice_cmp nat_cmp) made.seen.names name) ≡ contains made.done.looked name
+
+-- and each that is at hand was looked up
 abbrev pub Sees : Made → Type 0
-Sees made = (name : List ℕ) → is_some (get (slice_cmp nat_cmp) made.seen name) ≡ contains made.done.looked name
+Sees made = SeesNames made × ((name : List ℕ) → IsAtHand made.seen.recent.items name → contains made.done.looked name ≡ true)
 
 -- over a base with these macros and events: the macros are those of the events
 pub record Keeps (macros : List ℕ → Option Macro) (numbers : List ℕ → Option MacroNo) (start : Start) (table : MacroTable) (done : PpDone) : Type 0 where

@@ -8,7 +8,7 @@ pub returns : goal.returns
 returns c =
     proper_next c.args.tokens.now c.args.pairs.now c.args.reading c.in_ok-reading.reading c.args.parsed.tree c.args.parsed.scope c.args.to c.moved-marks.result c.requires.reads c.requires.some c.requires.within c.requires.end
     c.moved-marks.ensures.from c.moved-marks.ensures.marks c.requires.is
-    (subst (λ (cs : List Change). IsSettled c.args.reading cs c.args.to c.moved-marks.result c.in_ok-reading.reading) c.as_slice-changes.ensures.value c.in_ok-reading.ensures)
+    (subst (λ (cs : List Change). IsSettled c.args.reading cs c.args.to c.moved-marks.result c.in_ok-reading.reading) c.changes-changes.ensures.value c.in_ok-reading.ensures)
 
 pub settled-requires-clause-named : goal.settled-requires-clause-named
 settled-requires-clause-named c = (let l : c.args.reading.at ≤ c.args.to = omega arith in ahead_named c.args.tokens.now c.args.pairs.now c.args.reading c.args.to c.requires.reads l c.requires.within)

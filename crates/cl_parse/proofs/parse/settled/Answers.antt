@@ -1,19 +1,10 @@
-use Rattle.std.proofs.Common.{◌≡◌, ◌∙◌, refl, sym, ap, subst, take, List, ℕ, length}
+use Rattle.std.proofs.Common.{◌≡◌, ◌∙◌, refl, ap, subst, take, List, ℕ}
 use Rattle.cl_tree.specs.Scopes.{known}
 use Rattle.cl_tree.specs.Sets.{has}
 use Rattle.cl_tree.specs.declared.lexeme.Lexeme.{Lexeme}
 use Rattle.cl_parse.specs.code.Ahead.{Covers}
-use Rattle.cl_parse.proofs.Retyped.{all_anew, covers_kept, none_ahead}
+use Rattle.cl_parse.proofs.Retyped.{all_anew, covers_kept}
 use Rattle.cl_parse.proofs.parse.settled.Goals as goal
-
-pub returns-then-len-to : goal.returns-then-len-to
-returns-then-len-to c = record {
-  names_are = λ name. c.in_ok-names.ensures name ∙ ap (λ (ts : List Lexeme). known (take c.args.to ts) c.args.changes.now (has c.args.reading.names name) name) c.as_slice.ensures.value;
-  ahead_is = none_ahead (has c.in_ok-names.names) c.args.to c.args.reading.ahead.items (sym (ap length c.as_slice.ensures.value) ∙ c.as_slice.ensures.len ∙ sym c.len.ensures ∙ c.if-len-to.true);
-  covers = c.requires.covers;
-  at = refl;
-  marks_are = refl;
-}
 
 pub returns : goal.returns
 returns c =

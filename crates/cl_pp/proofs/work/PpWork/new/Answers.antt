@@ -1,8 +1,9 @@
-use Rattle.std.proofs.Common.{◌≡◌, List, [], ◌∷◌, ◌++◌, Option, None, refl, sym, ap, subst, ◌∙◌, reverse}
+use Rattle.std.proofs.Common.{rules, ◌≡◌, List, [], ◌∷◌, ◌++◌, Option, None, refl, sym, ap, subst, ◌∙◌, reverse}
 use Rattle.cl_macro.specs.declared.table.MacroTable.{MacroTable}
 use Rattle.cl_pp.specs.declared.aim.Target.{Target}
 use Rattle.cl_pp.specs.declared.done.PpDone.{PpDone}
 use Rattle.cl_pp.specs.declared.made.Frame.{Frame}
+use Rattle.cl_pp.specs.declared.made.Made.{Made}
 use Rattle.cl_pp.specs.declared.made.Source.{Source}
 use Rattle.cl_pp.specs.Before.{before_over}
 use Rattle.cl_pp.specs.Preprocessing.{World, before_lines, document, lexed_by}
@@ -13,6 +14,8 @@ use Rattle.cl_pp.specs.code.Reaching.{IsOpened}
 use Rattle.cl_pp.proofs.Found.{keeps_first}
 use Rattle.cl_pp.proofs.Reading.{keeps_events}
 use Rattle.cl_pp.proofs.Resuming.{start_of, starts}
+use Rattle.cl_pp.proofs.Seeing.{none_seen}
+use Rattle.cl_pp.proofs.Waiting.{sees_same}
 use Rattle.cl_pp.proofs.work.PpWork.new.Goals as goal
 
 pub returns-clause-waits : goal.returns-clause-waits
@@ -55,4 +58,25 @@ returns-clause-waits c = λ macros numbers folders.
           subst (λ (x : Option Target). Continues w (before_lines before) new.made.done (reverse new.frames) x) (sym e.target)
           (subst (λ (fs : List Frame). Continues w (before_lines before) new.made.done (reverse fs) None) (sym frames)
           (starts w source (before_lines before) new.made.done world opened refl c.in_ok-duplicate-2.ensures));
+    }
+
+pub returns-clause-sound : goal.returns-clause-sound
+returns-clause-sound c =
+    let first : PpDone = record {
+      tokens = c.new.result;
+      events = c.new-2.result;
+      files = c.args.start.files;
+      once = c.args.start.once;
+      deps = c.new-3.result;
+      uses = c.new-4.result;
+      looked = c.new-5.result;
+      faults = c.new-6.result;
+    } in
+    let made : Made = record { done = first; seen = c.in_ok-new-2.field-0 } in
+    let new = c.open_file.new.work in
+    let e = c.in_ok-open_file.ensures in
+    record {
+      sees = sees_same made new.made e.seen (ap (λ (d : PpDone). d.looked) e.opened.is) (none_seen made c.in_ok-new-2.ensures.names c.in_ok-new-2.ensures.recent c.new-5.ensures);
+      laid = search rules;
+      sound = search rules;
     }
