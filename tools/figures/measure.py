@@ -10,7 +10,6 @@ of this checkout, or $CLSD. For each count a line for each program says the seco
 import json
 import os
 import re
-import resource
 import subprocess
 import sys
 import tempfile
@@ -69,15 +68,9 @@ def session_of(text):
 
 def run(words, given):
     """Runs a program on a file as its standard input; returns seconds and megabytes."""
-    pid = os.fork()
-    if pid == 0:
-        os.dup2(os.open(given, os.O_RDONLY), 0)
-        nothing = os.open(os.devnull, os.O_WRONLY)
-        os.dup2(nothing, 1)
-        os.dup2(nothing, 2)
-        resource.setrlimit(resource.RLIMIT_STACK, (64 << 20, resource.RLIM_INFINITY))
-        os.execvp(words[0], words)
-    used = os.wait4(pid, 0)[2]
+    with open(given, "rb") as it:
+        started = subprocess.Popen(words, stdin=it, stdout=subprocess.DEVNULL, stderr=subprocess.DEVNULL)
+    used = os.wait4(started.pid, 0)[2]
     return used.ru_utime + used.ru_stime, used.ru_maxrss / 1024
 
 
@@ -92,6 +85,8 @@ def main():
     words = sys.argv[1:]
     counts_instructions = "--instructions" in words
     kind, *counts = [word for word in words if word != "--instructions"]
+    if not Path(PROGRAM).exists():
+        sys.exit(f"no program at {PROGRAM}: ./clsd build makes it")
     for count in map(int, counts):
         text = text_of(kind, count)
         with tempfile.TemporaryDirectory() as folder:
